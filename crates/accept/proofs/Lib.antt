@@ -1,0 +1,4 @@
+pub mod Admission
+pub mod Unchanged
+pub mod Stored
+pub mod Sound

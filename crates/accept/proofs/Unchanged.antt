@@ -1,0 +1,13 @@
+-- A refused call of accept answers the refusal and changes neither the state nor the store. Assumes nothing.
+use mathlib.Core.List.{List}
+use mathlib.Core.Path.{_≡_}
+use Prim.Native.Nat.{ℕ}
+use Rattle.ends.specs.declared.state.End.{End}
+use Rattle.ends.specs.declared.state.Refusal.{Refusal}
+use Rattle.ends.specs.declared.state.Verdict.the-variants.{Refused}
+use Rattle.accept.specs.Accept.{verdict, accept, accept-store}
+
+pub refused-changes-nothing : (e : End) (store unit : List ℕ) (r : Refusal) → verdict e store unit ≡ Refused r
+    → (accept e store unit .end ≡ e) × (accept-store e store unit ≡ store)
+unfolding accept accept-store
+refused-changes-nothing e store unit r h = (simp h, simp h)

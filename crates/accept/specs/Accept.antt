@@ -1,0 +1,60 @@
+-- Accept takes one unit from the transaction layer (01, "Refusals by number"; "What an end keeps"). Assumes nothing.
+use mathlib.Core.Bool.{Bool, not, _&&_}
+use mathlib.Core.List.{List}
+use Prim.Native.Nat.{ℕ, zero, suc, _+_, _-_, _/_, _%_}
+use lib.Dec.{ltb, leb, eqb}
+use lib.ListN.{length, drop}
+use Rattle.flits.specs.Fields.{acceptable}
+use Rattle.ends.specs.Choice.{pick}
+use Rattle.ends.specs.Update.{with-held}
+use Rattle.ends.specs.Ring.{flit-at, put-at, place}
+use Rattle.ends.specs.Refusals.{store-is, sound, is-down, last-run}
+use Rattle.ends.specs.declared.state.End.{End}
+use Rattle.ends.specs.declared.state.Refusal.the-variants as refusal
+use Rattle.ends.specs.declared.state.Verdict.{Verdict}
+use Rattle.ends.specs.declared.state.Verdict.the-variants.{Refused, Admitted}
+use Rattle.accept.specs.declared.Accepted.{Accepted}
+
+-- 3 SHAPE: unit length 0, over 576 or not a multiple of 64
+unfoldable pub unit-shaped : ℕ → Bool
+unit-shaped bytes = ltb 0 bytes && leb bytes 576 && eqb (bytes % 64) 0
+
+-- a unit's flits, and its control flit, which is the last
+abbrev pub flits-of : List ℕ → ℕ
+flits-of unit = length unit / 64
+
+abbrev pub control-of : List ℕ → List ℕ
+control-of unit = drop (length unit - 64) unit
+
+-- the refusals of accept, in the table's order
+unfoldable pub verdict : End → List ℕ → List ℕ → Verdict
+verdict e store unit =
+    pick (not (store-is e (length store))) (Refused refusal.Store)
+    (pick (not (sound e store)) (Refused refusal.State)
+    (pick (not (unit-shaped (length unit))) (Refused refusal.Shape)
+    (pick (is-down (e .mode)) (Refused refusal.Down)
+    (pick (not (eqb (flits-of unit - 1) (last-run e store))) (Refused refusal.Run)
+    (pick (not (acceptable (control-of unit))) (Refused refusal.Field)
+    (pick (ltb (e .capacity .0) (e .held .0 + flits-of unit)) (Refused refusal.Full)
+    Admitted))))))
+
+-- the first n flits of the unit written to the places after the held flits
+unfoldable pub written : ℕ → ℕ → ℕ → List ℕ → List ℕ → ℕ → List ℕ
+written places first held store unit zero = store
+written places first held store unit (suc n) =
+    put-at (written places first held store unit n) (place places first (held + n)) (flit-at unit n)
+
+-- what accept answers, with the state after it; what the store then holds
+abbrev pub end-after : Verdict → End → List ℕ → End
+end-after (Refused r) e unit = e
+end-after Admitted e unit = with-held (e .held .0 + flits-of unit) e
+
+abbrev pub store-after : Verdict → End → List ℕ → List ℕ → List ℕ
+store-after (Refused r) e store unit = store
+store-after Admitted e store unit = written (e .capacity .0) (e .first) (e .held .0) store unit (flits-of unit)
+
+unfoldable pub accept : End → List ℕ → List ℕ → Accepted
+accept e store unit = record { verdict = verdict e store unit; end = end-after (verdict e store unit) e unit }
+
+unfoldable pub accept-store : End → List ℕ → List ℕ → List ℕ
+accept-store e store unit = store-after (verdict e store unit) e store unit

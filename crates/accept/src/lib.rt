@@ -1,0 +1,111 @@
+// Accept takes one unit from the transaction layer: its data flits, then its control flit.
+use ends::judge;
+use ends::ring;
+use ends::state::End;
+use ends::state::Refusal;
+use ends::state::Verdict;
+use numbers::FlitCount;
+ghost use mathlib.Core.Path.{_≡_};
+ghost use Prim.Native.Nat.{_+_, _*_, _≤_};
+ghost use lib.ListN.{length};
+ghost use Rattle.ends.specs.Update.{with-held};
+ghost use Rattle.accept.specs.Accept.{unit-shaped as unit-shaped-of, verdict as verdict-of, written, accept as accept-of, accept-store};
+
+// What accept answers, and the end after it.
+pub struct Accepted {
+    pub verdict: Verdict,
+    pub end: End,
+}
+
+// Takes a unit into the store. A refusal changes neither the state nor the store.
+pub fn accept(e: End, store: &mut [u8], unit: &[u8]) -> Accepted
+    ensures { λ r. ⌜ r ≡ accept-of e (now (store .entry)) (now (unit .entry)) ⌝ }
+    ensures { λ _. ⌜ now (store .exit) ≡ accept-store e (now (store .entry)) (now (unit .entry)) ⌝ }
+{
+    match verdict(e, &store[..], unit) {
+        Verdict::Refused(r) => Accepted {
+            verdict: Verdict::Refused(r),
+            end: e,
+        },
+        Verdict::Admitted => {
+            let flits = unit.len() / End::FLIT;
+            store_unit(e, store, unit, flits);
+            let end = with_more(e, flits);
+            Accepted {
+                verdict: Verdict::Admitted,
+                end: end,
+            }
+        }
+    }
+}
+
+// 3 SHAPE.
+fn unit_shaped(bytes: usize) -> bool
+    ensures { λ r. ⌜ r ≡ unit-shaped-of bytes ⌝ }
+{
+    (0 < bytes) & (bytes <= End::HOLD) & (bytes % End::FLIT == 0)
+}
+
+// The refusals of accept, in the table's order.
+fn verdict(e: End, store: &[u8], unit: &[u8]) -> Verdict
+    ensures { λ r. ⌜ r ≡ verdict-of e (now (store .entry)) (now (unit .entry)) ⌝ }
+{
+    let bytes = unit.len();
+    if !judge::is_its_store(e, store.len()) {
+        return Verdict::Refused(Refusal::Store);
+    }
+    let judged = judge::judge(e, store);
+    if !judged.sound {
+        return Verdict::Refused(Refusal::State);
+    }
+    if !unit_shaped(bytes) {
+        return Verdict::Refused(Refusal::Shape);
+    }
+    let mode = e.mode;
+    if judge::is_down(mode) {
+        return Verdict::Refused(Refusal::Down);
+    }
+    let flits = bytes / End::FLIT;
+    if flits - 1 != judged.last.0 {
+        return Verdict::Refused(Refusal::Run);
+    }
+    let control = bytes - End::FLIT;
+    if !flits::read::acceptable(&unit[control..bytes]) {
+        return Verdict::Refused(Refusal::Field);
+    }
+    if e.capacity.0 < e.held.0 + flits {
+        return Verdict::Refused(Refusal::Full);
+    }
+    Verdict::Admitted
+}
+
+// Writes a unit to the places after the held flits.
+fn store_unit(e: End, store: &mut [u8], unit: &[u8], flits: usize)
+    requires { ⌜ (length (now store) ≡ e .capacity .0 * 64) × (e .capacity .0 ≤ 1024) × (e .first + 1 ≤ e .capacity .0) × (e .held .0 + flits ≤ e .capacity .0) × (length (now unit) ≡ flits * 64) ⌝ }
+    ensures { λ _. ⌜ now (store .exit) ≡ written (e .capacity .0) (e .first) (e .held .0) (now (store .entry)) (now (unit .entry)) flits ⌝ }
+{
+    let places = e.capacity.0;
+    let first = e.first;
+    let held = e.held.0;
+    let mut n: usize = 0;
+    while n < flits {
+        let to = ring::place(places, first, held + n) * 64;
+        let to_end = to + 64;
+        let from = n * 64;
+        let from_end = from + 64;
+        let flit = flits::copy::taken(&unit[from..from_end]);
+        flits::copy::put(&mut store[to..to_end], flit);
+        n += 1;
+    }
+}
+
+// The end with so many flits more.
+fn with_more(e: End, flits: usize) -> End
+    requires { ⌜ e .held .0 + flits ≤ 1024 ⌝ }
+    ensures { λ r. ⌜ r ≡ with-held (e .held .0 + flits) e ⌝ }
+{
+    let held = FlitCount(e.held.0 + flits);
+    let mut next = e;
+    next.held = held;
+    next
+}

@@ -1,0 +1,80 @@
+-- What an answer says of the tests that led to it: where an acknowledgement counts it is not past sent, and a delivery does not bring
+-- untold over 1,024. Assumes nothing.
+use mathlib.Core.Bool.{Bool, false, _&&_, not}
+use mathlib.Core.Path.{_≡_}
+use Prim.Native.Nat.{ℕ, _+_, _≤_}
+use borrow.Author.Tests.{ltb-false}
+use lib.Dec.{ltb, eqb}
+use Rattle.flits.specs.Fields.{replay, idle}
+use Rattle.flits.specs.declared.Fields.{Fields}
+use Rattle.ends.specs.declared.state.End.{End}
+use Rattle.ends.specs.declared.state.Mode.{Mode}
+use Rattle.ends.specs.declared.state.Mode.the-variants.{Run, Wait, Down}
+use Rattle.ends.proofs.Tests.{pick-either}
+use Rattle.answers.specs.Answers.{holds, damaged, skips, newly-covered, past-sent, behind, half, replay-answer, plain-answer, run-answer, wait-answer, mode-answer}
+use Rattle.answers.specs.declared.Answer.{Answer}
+use Rattle.answers.specs.declared.Answer.the-variants as answer
+
+pub record Nothing : Type 0 where
+
+pub record Counts (e : End) (n : ℕ) : Type 0 where
+  pub within : past-sent e n ≡ false
+
+pub record Delivers (e : End) (n : ℕ) : Type 0 where
+  pub within : past-sent e n ≡ false
+  pub room : e .untold .0 + (e .gathered .0 + 1) ≤ 1024
+
+abbrev pub Fits : Answer → End → Fields → Type 0
+Fits (answer.Refused r) e f = Nothing
+Fits answer.Held e f = Nothing
+Fits (answer.Delivered n) e f = Delivers e (f .acks .0)
+Fits answer.Duplicate e f = Counts e (f .acks .0)
+Fits answer.Idle e f = Counts e (f .acks .0)
+Fits answer.Replayed e f = Counts e (newly-covered e (f .last .0))
+Fits answer.Ahead e f = Counts e (newly-covered e (f .last .0))
+Fits answer.Skipped e f = Nothing
+Fits answer.Damaged e f = Nothing
+Fits answer.Discarded e f = Nothing
+Fits (answer.Down cause) e f = Nothing
+
+replay-fits : (e : End) (f : Fields) → Fits (replay-answer e f) e f
+unfolding replay-answer
+replay-fits e f =
+    let P : Answer → Type 0 = λ a. Fits a e f in
+    pick-either P (f .short) _ _ (λ t. record {})
+    (λ t.
+    pick-either P (ltb 8 (f .previous .0)) _ _ (λ u. record {})
+    (λ u.
+    pick-either P (past-sent e (newly-covered e (f .last .0))) _ _ (λ v. record {})
+    (λ v. pick-either P (ltb (behind e (f .start .0)) half) _ _ (λ w. record { within = v }) (λ w. record { within = v }))))
+
+plain-fits : (e : End) (f : Fields) → Fits (plain-answer e f) e f
+unfolding plain-answer
+plain-fits e f =
+    let P : Answer → Type 0 = λ a. Fits a e f in
+    pick-either P (f .short) _ _ (λ t. record {})
+    (λ t.
+    pick-either P (past-sent e (f .acks .0)) _ _ (λ u. record {})
+    (λ u.
+    pick-either P (eqb (f .run .0) idle) _ _ (λ v. record { within = u })
+    (λ v.
+    pick-either P (not (eqb (e .position .0) (e .wanted .0))) _ _ (λ w. record { within = u })
+    (λ w.
+    pick-either P (ltb 1024 (e .untold .0 + (e .gathered .0 + 1))) _ _ (λ x. record {})
+    (λ x. record { within = u; room = ltb-false 1024 (e .untold .0 + (e .gathered .0 + 1)) x })))))
+
+-- of every answer that is found
+pub found : (m : Mode) (e : End) (f : Fields) (b : Bool) → Fits (mode-answer m e f b) e f
+unfolding run-answer wait-answer
+found Run e f b =
+    let P : Answer → Type 0 = λ a. Fits a e f in
+    pick-either P (holds e) _ _ (λ t. record {})
+    (λ t.
+    pick-either P (damaged e f b) _ _ (λ u. record {})
+    (λ u.
+    pick-either P (skips f) _ _ (λ v. record {})
+    (λ v. pick-either P (eqb (f .run .0) replay) _ _ (λ w. replay-fits e f) (λ w. plain-fits e f))))
+found Wait e f b =
+    let P : Answer → Type 0 = λ a. Fits a e f in
+    pick-either P (b && eqb (f .run .0) replay) _ _ (λ t. replay-fits e f) (λ t. record {})
+found Down e f b = record {}

@@ -1,0 +1,2 @@
+-- The theorem on the table. Assumes nothing.
+pub mod Theorem

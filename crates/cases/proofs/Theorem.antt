@@ -1,0 +1,36 @@
+-- The bench cases hold: each is computed. Both sides of each equation come to the same once the definitions named below are unfolded, down to
+-- the division of the check. Assumes nothing.
+use mathlib.Core.Path.{refl}
+use Rattle.numbers.specs.Numbers.{after, difference, acknowledge-number, wanted-by}
+use Rattle.crc.specs.Unit.{polynomial, bits, right}
+use Rattle.crc.specs.Seal.{withCheck, checkOf, sealed}
+use Rattle.flits.specs.Bytes.{number, bytes}
+use Rattle.flits.specs.Fields.{fields-of, acceptable}
+use Rattle.flits.specs.Flits.{control-told, idle-flit, replay-flit}
+use Rattle.ends.specs.State.{store-fits, fresh, start}
+use Rattle.ends.specs.Ring.{place, begun, walk}
+use Rattle.ends.specs.Refusals.{store-is, counts-sound, numbers-sound, units-sound, sound}
+use Rattle.accept.specs.Accept.{unit-shaped, verdict as accept-verdict, accept}
+use Rattle.send.specs.Send.{verdict as send-verdict, replay-sent, burst, moved, send, send-output}
+use Rattle.answers.specs.Answers.{holds, closes, length-wrong, stall-wrong, straddles, damaged, skips, newly-covered, past-sent, replay-answer, run-answer, wait-answer}
+use Rattle.receive.specs.Acknowledge.{last-border, freed, acknowledged}
+use Rattle.receive.specs.Receive.{verdict as receive-verdict, waiting, discarded, replaced, end-after, answer-to, receive}
+use Rattle.cases.specs.Cases.{BenchCases}
+
+pub bench-cases : BenchCases
+unfolding after difference acknowledge-number wanted-by polynomial bits right withCheck checkOf sealed number bytes fields-of acceptable control-told idle-flit replay-flit store-fits fresh start place begun walk store-is counts-sound numbers-sound units-sound sound unit-shaped accept-verdict accept send-verdict replay-sent burst moved send send-output holds closes length-wrong stall-wrong straddles damaged skips newly-covered past-sent replay-answer run-answer wait-answer last-border freed acknowledged receive-verdict waiting discarded replaced end-after answer-to receive
+bench-cases =
+    record {
+      case-1 = (refl, refl);
+      case-2 = (refl, refl);
+      case-3 = (refl, refl);
+      case-4 = (refl, refl);
+      case-5 = (refl, refl, refl);
+      case-6 = (refl, refl);
+      case-7 = (refl, refl);
+      case-8 = (refl, refl);
+      case-9 = (refl, refl);
+      case-10 = (refl, refl, refl, refl, refl, refl);
+      case-11 = (refl, refl);
+      case-12 = (refl, refl);
+    }

@@ -1,0 +1,2 @@
+-- The table of the bench cases. Assumes nothing.
+pub mod Cases

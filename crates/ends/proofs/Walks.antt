@@ -1,0 +1,164 @@
+-- The walk over the held flits. On a border the data flits to come are those of the unit that begins there; past j of them the walk
+-- is inside that unit, and past its control flit on the next border. So between two borders lie whole units. Assumes nothing.
+use mathlib.Core.Bool.{Bool, true, false, _&&_}
+use mathlib.Core.List.{List}
+use mathlib.Core.Path.{_≡_, refl, sym, ap, _∙_, subst}
+use Prim.Native.Nat.{ℕ, zero, suc, _+_, _-_, _<_, _≤_}
+use native.Mathlib.Omega.{arith}
+use native.Mathlib.Nat.{add-suc, add-zero}
+use native.Mathlib.Numerals.{add-one}
+use borrow.Author.Tests.{ltb-true, ltb-false, lt-ltb, le-ltb, leb-true, eqb-true, eqb-false}
+use lib.Dec.{ltb, leb, eqb}
+use Rattle.flits.specs.Bytes.{field, read}
+use Rattle.flits.specs.Fields.{content, run-length, acceptable}
+use Rattle.ends.specs.Choice.{pick}
+use Rattle.ends.specs.Ring.{flit-at, place, begun, passed, walk, walked, stored}
+use Rattle.ends.specs.declared.state.End.{End}
+use Rattle.ends.specs.declared.walk.Walk.{Walk}
+use Rattle.ends.proofs.Tests.{and-l, and-r, pick-true, pick-false, pick-either}
+
+-- a data flit, and a control flit
+pub passed-data : (flit : List ℕ) (w : Walk) → 0 < w .left
+    → passed flit w ≡ record { left = w .left - 1; run = w .run; border = false; sound = w .sound }
+unfolding passed
+passed-data flit w h = simp (lt-ltb 0 (w .left) h)
+
+pub passed-control : (flit : List ℕ) (w : Walk) → w .left ≤ 0
+    → passed flit w
+    ≡ record {
+      left = read run-length (content flit);
+      run = read run-length (content flit);
+      border = true;
+      sound = w .sound && acceptable flit;
+    }
+unfolding passed
+passed-control flit w h = simp (le-ltb 0 (w .left) h)
+
+-- on a border the data flits to come are those of the unit that begins there, at most 8 of them where the walk is sound
+pub record Fair (w : Walk) : Type 0 where
+  pub left : w .left ≤ w .run
+  pub at-border : w .border ≡ true → w .left ≡ w .run
+  pub small : w .sound ≡ true → w .run ≤ 8
+
+fair-passed : (flit : List ℕ) (w : Walk) → Fair w → Fair (passed flit w)
+unfolding passed acceptable
+fair-passed flit w f =
+    pick-either Fair (ltb 0 (w .left)) _ _
+    (λ t. record { left = omega (arith, f .left, ltb-true 0 (w .left) t); at-border = λ b. absurd-border b; small = f .small })
+    (λ t. record { left = omega arith; at-border = λ b. refl; small = λ s. leb-true (read run-length (content flit)) 8 (and-l (leb (read run-length (content flit)) 8) (eqb (read (field 63 18) (content flit)) 0) (and-r (w .sound) (acceptable flit) s)) })
+  where
+    absurd-border : false ≡ true → w .left - 1 ≡ w .run
+    absurd-border b = let z : _≡_ {A = ℕ} 0 1 = cc in omega arith
+
+pub fair : (e : End) (store : List ℕ) (n : ℕ) → e .kept .0 ≤ 8 → Fair (walked e store n)
+unfolding walk begun
+fair e store zero h = record { left = omega arith; at-border = λ b. refl; small = λ s. h }
+fair e store (suc n) h = fair-passed (stored e store n) (walked e store n) (fair e store n h)
+
+-- a walk that is sound was sound before
+sound-passed : (flit : List ℕ) (w : Walk) → passed flit w .sound ≡ true → w .sound ≡ true
+unfolding passed
+sound-passed flit w = go (ltb 0 (w .left))
+  where
+    go : (b : Bool)
+        → (pick {A = Walk} b (record { left = w .left - 1; run = w .run; border = false; sound = w .sound })
+        (record {
+          left = read run-length (content flit);
+          run = read run-length (content flit);
+          border = true;
+          sound = w .sound && acceptable flit;
+        })) .sound ≡ true
+        → w .sound ≡ true
+    go true h = h
+    go false h = and-l (w .sound) (acceptable flit) h
+
+pub sound-before : (e : End) (store : List ℕ) (m k : ℕ) → walked e store (m + k) .sound ≡ true → walked e store m .sound ≡ true
+unfolding walk
+sound-before e store m zero h = subst (λ (n : ℕ). walked e store n .sound ≡ true) (add-zero m) h
+sound-before e store m (suc k) h =
+    sound-before e store m k
+    (sound-passed (stored e store (m + k)) (walked e store (m + k))
+    (subst (λ (n : ℕ). walked e store n .sound ≡ true) (add-suc m k) h))
+
+-- past j data flits of the unit that begins at the border k
+pub record Inside (w : Walk) (u : Walk) (j : ℕ) : Type 0 where
+  pub left : u .left ≡ w .run - j
+  pub run : u .run ≡ w .run
+  pub border : 0 < j → u .border ≡ false
+  pub sound : u .sound ≡ w .sound
+
+module _ (e : End) (store : List ℕ) (small : e .kept .0 ≤ 8) (k : ℕ) (border : walked e store k .border ≡ true) where
+  pub inside : (j : ℕ) → j ≤ walked e store k .run → Inside (walked e store k) (walked e store (k + j)) j
+  unfolding walk
+  inside zero h =
+      subst (λ (n : ℕ). Inside (walked e store k) (walked e store n) 0) (sym (add-zero k))
+      (record { left = omega (arith, fair e store k small .at-border border); run = refl; border = λ z. absurd (omega arith); sound = refl })
+  inside (suc j) h =
+      let i = inside j (omega arith) in
+      let p = passed-data (stored e store (k + j)) (walked e store (k + j)) (omega (arith, i .left)) in
+      subst (λ (n : ℕ). Inside (walked e store k) (walked e store n) (suc j)) (sym (add-suc k j))
+      (record {
+        left = ap (λ (w : Walk). w .left) p ∙ omega (arith, i .left);
+        run = ap (λ (w : Walk). w .run) p ∙ i .run;
+        border = λ z. ap (λ (w : Walk). w .border) p;
+        sound = ap (λ (w : Walk). w .sound) p ∙ i .sound;
+      })
+
+  -- the control flit of the unit that begins at the border k
+  abbrev pub closing : List ℕ
+  closing = stored e store (k + walked e store k .run)
+
+  -- past it stands the next border
+  pub next-border : walked e store (suc (k + walked e store k .run))
+      ≡ record {
+        left = read run-length (content closing);
+        run = read run-length (content closing);
+        border = true;
+        sound = walked e store k .sound && acceptable closing;
+      }
+  unfolding walk
+  next-border =
+      let i = inside (walked e store k .run) (omega arith) in
+      passed-control closing (walked e store (k + walked e store k .run)) (omega (arith, i .left))
+      ∙ ap
+      (λ (s : Bool). ended s) (i .sound)
+    where
+      ended : Bool → Walk
+      ended s =
+          record {
+            left = read run-length (content closing);
+            run = read run-length (content closing);
+            border = true;
+            sound = s && acceptable closing;
+          }
+
+  -- between two borders lie whole units
+  pub whole : (n : ℕ) → k < n → walked e store n .border ≡ true → k + walked e store k .run < n
+  whole n h b = go (ltb (k + walked e store k .run) n) refl
+    where
+      go : (t : Bool) → ltb (k + walked e store k .run) n ≡ t → k + walked e store k .run < n
+      go true t = ltb-true (k + walked e store k .run) n t
+      go false t =
+          let f = ltb-false (k + walked e store k .run) n t in
+          let i = inside (n - k) (omega arith) in
+          let m : k + (n - k) ≡ n = omega arith in
+          let x : walked e store n .border ≡ false = subst (λ (z : ℕ). walked e store z .border ≡ false) m (i .border (omega arith)) in
+          let z : _≡_ {A = ℕ} 0 1 = cc in
+          absurd (omega arith)
+
+-- the walk by the code's steps: one flit more, and what was met at a place on the way
+pub walk-step : (places first : ℕ) (w : Walk) (store : List ℕ) (n : ℕ)
+    → walk places first w store (n + 1) ≡ passed (flit-at store (place places first n)) (walk places first w store n)
+unfolding walk
+walk-step places first w store n = rw add-one
+
+pub met-again : (W : ℕ → Walk) (n at : ℕ) (w met r : Walk) → r ≡ pick (eqb n at) w met → w ≡ W n → (at < n → met ≡ W at) → at < n + 1
+    → r ≡ W at
+met-again W n at w met r e v m h = go (eqb n at) refl
+  where
+    go : (b : Bool) → eqb n at ≡ b → r ≡ W at
+    go true t = e ∙ pick-true (eqb n at) w met t ∙ v ∙ ap W (eqb-true n at t)
+    go false t = e ∙ pick-false (eqb n at) w met t ∙ m (apart (eqb-false n at t))
+      where
+        apart : (n ≡ at → ⊥) → at < n
+        apart d = omega arith

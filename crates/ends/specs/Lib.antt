@@ -1,0 +1,5 @@
+pub mod Choice
+pub mod State
+pub mod Update
+pub mod Ring
+pub mod Refusals

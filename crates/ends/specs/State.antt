@@ -1,0 +1,65 @@
+-- The fresh end, and the numbers of the refusals (01, "What an end keeps"; "Refusals by number"). Assumes nothing.
+use mathlib.Core.Bool.{Bool, false, _&&_}
+use Prim.Native.Nat.{ℕ, _/_, _%_}
+use lib.Dec.{leb, eqb}
+use lib.ListN.{replicate}
+use Rattle.ends.specs.Choice.{pick}
+use Rattle.ends.specs.declared.state.End.{End}
+use Rattle.ends.specs.declared.state.Started.{Started}
+use Rattle.ends.specs.declared.state.Mode.the-variants.{Run}
+use Rattle.ends.specs.declared.state.Refusal.{Refusal}
+use Rattle.ends.specs.declared.state.Refusal.the-variants as refusal
+use Rattle.ends.specs.declared.state.Verdict.{Verdict}
+use Rattle.ends.specs.declared.state.Verdict.the-variants.{Refused, Admitted}
+
+-- the number of a refusal
+abbrev pub number-of : Refusal → ℕ
+number-of refusal.Store = 1
+number-of refusal.State = 2
+number-of refusal.Shape = 3
+number-of refusal.Out = 4
+number-of refusal.Down = 5
+number-of refusal.Run = 6
+number-of refusal.Field = 7
+number-of refusal.Full = 8
+
+-- what a call returns: the number of its refusal, or 0
+abbrev pub verdict-number : Verdict → ℕ
+verdict-number (Refused r) = number-of r
+verdict-number Admitted = 0
+
+-- capacity C is 9 to 1,024 flits: a store of 64 C bytes
+unfoldable pub store-fits : ℕ → Bool
+store-fits bytes = eqb (bytes % 64) 0 && leb 9 (bytes / 64) && leb (bytes / 64) 1024
+
+-- fresh, every number, count and place is 0, no mark is set and the mode is run
+unfoldable pub fresh : ℕ → End
+fresh capacity =
+    record {
+      information = replicate 8 0;
+      capacity = record { 0 = capacity };
+      first = 0;
+      held = record { 0 = 0 };
+      kept = record { 0 = 0 };
+      owed = record { 0 = 0 };
+      gathered = record { 0 = 0 };
+      untold = record { 0 = 0 };
+      discards = 0;
+      oldest = record { 0 = 0 };
+      cursor = record { 0 = 0 };
+      sent = record { 0 = 0 };
+      acknowledged = record { 0 = 0 };
+      wanted = record { 0 = 0 };
+      position = record { 0 = 0 };
+      stalled = false;
+      pending = false;
+      cause = 0;
+      mode = Run;
+    }
+
+-- start refuses with STORE, and then gives a state of capacity 0
+unfoldable pub start : ℕ → Started
+start bytes =
+    pick (store-fits bytes)
+    (record { verdict = Admitted; end = fresh (bytes / 64) })
+    (record { verdict = Refused refusal.Store; end = fresh 0 })

@@ -1,0 +1,24 @@
+// The fields of control, idle and replay flits: read, and written (01, "Fields"). Nothing above this crate speaks of a byte or a
+// bit of a flit.
+pub mod copy;
+mod place;
+pub mod read;
+pub mod write;
+
+use numbers::FlitCount;
+use numbers::LastReceived;
+use numbers::SequenceNumber;
+
+// What is read of an arriving flit. Which of it counts goes by the run length.
+pub struct Fields {
+    pub information: u64,
+    pub acks: FlitCount,
+    pub run: FlitCount,
+    pub stall: FlitCount,
+    pub previous: FlitCount,
+    pub start: SequenceNumber,
+    pub last: LastReceived,
+    pub stalled: bool,
+    pub short: bool,
+    pub nack: bool,
+}

@@ -1,0 +1,91 @@
+use mathlib.Core.Path.{_≡_, sym, ap, ap₂, _∙_}
+use native.Mathlib.Omega.{arith}
+use borrow.Author.Needs.{needs}
+use lib.ListN.{length}
+use Rattle.ends.proofs.Facts.{sound-is}
+use Rattle.ends.specs.declared.state.Verdict.{Verdict}
+use Rattle.answers.specs.Answers.{mode-answer}
+use Rattle.receive.specs.Receive.{end-after, hold-after, answer-by, answer-to, receive, receive-hold}
+use Rattle.receive.proofs.Admission.{admission}
+use Rattle.receive.proofs.receive_with.Statement.{statement}
+use Rattle.receive.proofs.receive_with.Tie as tie
+
+verdict-requires : tie.Need-verdict-requires
+verdict-requires c κs = search needs
+
+enum-known-r : tie.Need-enum-known-r
+enum-known-r c = search needs
+
+enum-told : tie.Need-enum-told
+enum-told c = search needs
+
+fields-requires : tie.Need-fields-requires
+fields-requires c κs =
+    let a = c .before .before .before .before .before .before .args in
+    let m = admission (a .e) (a .store .now) (length (a .hold .now)) (length (a .flit .now)) (sym (c .before .before .verdict .ensures) ∙ c .enum-told .given .1) in
+    let k = sound-is (a .e) (a .store .now) (m .is-sound) .counts in
+    omega arith
+
+checked-right-requires : tie.Need-checked-right-requires
+checked-right-requires c κs =
+    let a = c .before .before .before .before .before .before .before .before .args in
+    let m = admission (a .e) (a .store .now) (length (a .hold .now)) (length (a .flit .now)) (sym (c .before .before .before .before .verdict .ensures) ∙ c .before .before .enum-told .given .1) in
+    let k = sound-is (a .e) (a .store .now) (m .is-sound) .counts in
+    (c .before .before .before .before .before .before .before .before .pre, omega arith)
+
+answer-to-requires : tie.Need-answer-to-requires
+answer-to-requires c κs =
+    let a = c .before .before .before .before .before .before .before .before .before .args in
+    let m = admission (a .e) (a .store .now) (length (a .hold .now)) (length (a .flit .now)) (sym (c .before .before .before .before .before .verdict .ensures) ∙ c .before .before .before .enum-told .given .1) in
+    let k = sound-is (a .e) (a .store .now) (m .is-sound) .counts in
+    omega arith
+
+end-after-requires : tie.Need-end-after-requires
+end-after-requires c κs =
+    let a = c .before .before .before .before .before .before .before .before .before .before .args in
+    let m = admission (a .e) (a .store .now) (length (a .hold .now)) (length (a .flit .now)) (sym (c .before .before .before .before .before .before .verdict .ensures) ∙ c .before .before .before .before .enum-told .given .1) in
+    let k = sound-is (a .e) (a .store .now) (m .is-sound) .counts in
+    (m .its-store, m .is-sound, (c .before .checked-right .result, c .answer-to .ensures))
+
+write-hold-requires : tie.Need-write-hold-requires
+write-hold-requires c κs =
+    let a = c .before .before .before .before .before .before .before .before .before .before .before .before .args in
+    let m = admission (a .e) (a .store .now) (length (a .hold .now)) (length (a .flit .now)) (sym (c .before .before .before .before .before .before .before .before .verdict .ensures) ∙ c .before .before .before .before .before .before .enum-told .given .1) in
+    let k = sound-is (a .e) (a .store .now) (m .is-sound) .counts in
+    omega arith
+
+returns : tie.Need-returns
+unfolding receive receive-hold answer-to end-after hold-after
+returns c =
+    let v = sym (c .before .before .before .verdict .ensures) ∙ c .before .r .given .1 in
+    (simp v, simp v)
+
+same-length : tie.Need-same-length
+same-length c = search needs
+
+returns-2 : tie.Need-returns-2
+unfolding receive receive-hold answer-to
+returns-2 c =
+    let a = c .before .before .before .before .before .before .before .before .before .before .before .before .before .before .before .args in
+    let v = sym (c .before .before .before .before .before .before .before .before .before .before .before .verdict .ensures) ∙ c .before .before .before .before .before .before .before .before .before .enum-told .given .1 in
+    let x : c .before .before .before .before .before .answer-to .result ≡ answer-to (a .e) (a .store .now) (a .hold .now) (a .flit .now) =
+    c .before .before .before .before .before .answer-to .ensures
+    ∙ ap₂ (mode-answer (a .e .mode) (a .e)) (c .before .before .before .before .before .before .before .before .fields .ensures) (c .before .before .before .before .before .before .checked-right .ensures)
+    ∙ sym (ap (λ (z : Verdict). answer-by z (a .e) (a .hold .now) (a .flit .now)) v) in
+    (cc (c .before .before .before .before .end-after .ensures, c .before .before .before .before .before .before .before .before .fields .ensures, x), cc (c .before .before .write-hold .ensures, x))
+
+pub receive-with-spec : {M : Type 1} → statement M
+receive-with-spec =
+    tie.close
+    (tie.spec
+    verdict-requires
+    enum-known-r
+    enum-told
+    fields-requires
+    checked-right-requires
+    answer-to-requires
+    end-after-requires
+    write-hold-requires
+    returns
+    same-length
+    returns-2)

@@ -1,0 +1,2 @@
+pub mod Acknowledge
+pub mod Receive

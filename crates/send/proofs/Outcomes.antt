@@ -1,0 +1,44 @@
+-- What comes out of a call: a refusal changes neither the state nor the output, and an admitted call writes the burst to the start of
+-- the output and moves the end past it. Assumes nothing.
+use mathlib.Core.List.{List, _++_}
+use mathlib.Core.Path.{_≡_, ap}
+use Prim.Native.Nat.{ℕ}
+use lib.ListN.{length, drop}
+use Rattle.ends.specs.Refusals.{run-at-cursor}
+use Rattle.ends.specs.declared.state.End.{End}
+use Rattle.ends.specs.declared.state.Refusal.{Refusal}
+use Rattle.ends.specs.declared.state.Verdict.{Verdict}
+use Rattle.ends.specs.declared.state.Verdict.the-variants.{Refused, Admitted}
+use Rattle.send.specs.Send.{verdict, burst, burst-flits, moved, sent-by, output-by, send, send-output}
+use Rattle.send.specs.declared.Answer.the-variants as answer
+use Rattle.send.specs.declared.Sent.{Sent}
+
+module _ (e : End) (store : List ℕ) where
+  pub send-refused : (n : ℕ) (r : Refusal) → verdict e store n ≡ Refused r → send e store n ≡ record { answer = answer.Refused r; end = e }
+  unfolding send
+  send-refused n r h = ap (λ (v : Verdict). sent-by v e (run-at-cursor e store)) h
+
+  pub output-refused : (output : List ℕ) (errors information : ℕ) (r : Refusal) → verdict e store (length output) ≡ Refused r
+      → send-output e store output errors information ≡ output
+  unfolding send-output
+  output-refused output errors information r h =
+      ap (λ (v : Verdict). output-by v (burst e store (run-at-cursor e store) errors information) output) h
+
+  pub refused-changes-nothing : (output : List ℕ) (errors information : ℕ) (r : Refusal) → verdict e store (length output) ≡ Refused r
+      → (send e store (length output) .end ≡ e) × (send-output e store output errors information ≡ output)
+  refused-changes-nothing output errors information r h =
+      (ap (λ (s : Sent). s .end) (send-refused (length output) r h), output-refused output errors information r h)
+
+  pub send-admitted : (n : ℕ) → verdict e store n ≡ Admitted
+      → send e store n
+      ≡ record { answer = answer.Flits (record { 0 = burst-flits e (run-at-cursor e store) }); end = moved e (run-at-cursor e store) }
+  unfolding send
+  send-admitted n h = ap (λ (v : Verdict). sent-by v e (run-at-cursor e store)) h
+
+  pub output-admitted : (output : List ℕ) (errors information : ℕ) → verdict e store (length output) ≡ Admitted
+      → send-output e store output errors information
+      ≡ burst e store (run-at-cursor e store) errors information
+      ++ drop (length (burst e store (run-at-cursor e store) errors information)) output
+  unfolding send-output
+  output-admitted output errors information h =
+      ap (λ (v : Verdict). output-by v (burst e store (run-at-cursor e store) errors information) output) h
