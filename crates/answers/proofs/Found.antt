@@ -1,6 +1,6 @@
 -- What an answer says of the tests that led to it: where an acknowledgement counts it is not past sent, and a delivery does not bring
 -- untold over 1,024. Assumes nothing.
-use mathlib.Core.Bool.{Bool, false, _&&_, not}
+use mathlib.Core.Bool.{Bool, true, false, _&&_, not}
 use mathlib.Core.Path.{_≡_}
 use Prim.Native.Nat.{ℕ, _+_, _≤_}
 use borrow.Author.Tests.{ltb-false}
@@ -10,8 +10,8 @@ use Rattle.flits.specs.declared.Fields.{Fields}
 use Rattle.ends.specs.declared.state.End.{End}
 use Rattle.ends.specs.declared.state.Mode.{Mode}
 use Rattle.ends.specs.declared.state.Mode.the-variants.{Run, Wait, Down}
-use Rattle.ends.proofs.Tests.{pick-either}
-use Rattle.answers.specs.Answers.{holds, damaged, skips, newly-covered, past-sent, behind, half, replay-answer, plain-answer, run-answer, wait-answer, mode-answer}
+use Rattle.ends.proofs.Tests.{pick-true, pick-either}
+use Rattle.answers.specs.Answers.{holds, held-in, damaged, skips, newly-covered, past-sent, behind, half, replay-answer, plain-answer, run-answer, wait-answer, mode-answer}
 use Rattle.answers.specs.declared.Answer.{Answer}
 use Rattle.answers.specs.declared.Answer.the-variants as answer
 
@@ -78,3 +78,10 @@ found Wait e f b =
     let P : Answer → Type 0 = λ a. Fits a e f in
     pick-either P (b && eqb (f .run .0) replay) _ _ (λ t. replay-fits e f) (λ t. record {})
 found Down e f b = record {}
+
+-- where the flit is held, nothing else is looked at
+pub held-answer : (m : Mode) (e : End) (f : Fields) (b : Bool) → held-in m e ≡ true → mode-answer m e f b ≡ answer.Held
+unfolding run-answer
+held-answer Run e f b h = pick-true (holds e) answer.Held _ h
+held-answer Wait e f b h = let z : false ≡ true = h in cc
+held-answer Down e f b h = let z : false ≡ true = h in cc

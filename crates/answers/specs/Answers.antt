@@ -1,6 +1,6 @@
 -- What receive answers, step by step of 01, "Receive": a function of the state, the fields of the arriving flit and whether the check
 -- is right. Assumes nothing.
-use mathlib.Core.Bool.{Bool, not, _&&_, _||_}
+use mathlib.Core.Bool.{Bool, false, not, _&&_, _||_}
 use mathlib.Core.List.{List, _++_}
 use Prim.Native.Nat.{ℕ, _+_, _*_}
 use lib.Dec.{ltb, leb, eqb}
@@ -19,9 +19,14 @@ use Rattle.answers.specs.declared.Answer.the-variants as answer
 
 -- ---- which flits are looked at together
 
--- not stalled and data owed: the flit is held
+-- in mode run, not stalled and data owed: the flit is held
 unfoldable pub holds : End → Bool
 holds e = not (e .stalled) && ltb (e .gathered .0) (e .owed .0)
+
+abbrev pub held-in : Mode → End → Bool
+held-in Run e = holds e
+held-in Wait e = false
+held-in Down e = false
 
 -- when all owed data is held, the next flit closes the unit
 unfoldable pub closes : End → Bool

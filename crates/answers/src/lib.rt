@@ -9,7 +9,7 @@ ghost use Prim.Native.Nat.{_≤_, _*_};
 ghost use lib.ListN.{length};
 ghost use Rattle.crc.specs.Register.{table};
 ghost use Rattle.crc.specs.Unit.{right};
-ghost use Rattle.answers.specs.Answers.{newly-covered as newly-covered-of, past-sent as past-sent-of, holds as holds-of, closes as closes-of, checked, length-wrong as length-wrong-of, stall-wrong as stall-wrong-of, straddles as straddles-of, damaged as damaged-of, skips as skips-of, replay-answer as replay-answer-of, plain-answer as plain-answer-of, run-answer as run-answer-of, wait-answer as wait-answer-of, mode-answer};
+ghost use Rattle.answers.specs.Answers.{newly-covered as newly-covered-of, past-sent as past-sent-of, holds as holds-of, held-in, closes as closes-of, checked, length-wrong as length-wrong-of, stall-wrong as stall-wrong-of, straddles as straddles-of, damaged as damaged-of, skips as skips-of, replay-answer as replay-answer-of, plain-answer as plain-answer-of, run-answer as run-answer-of, wait-answer as wait-answer-of, mode-answer};
 
 pub enum Answer {
     Refused(Refusal),
@@ -27,8 +27,32 @@ pub enum Answer {
     Down(u8),
 }
 
-// Not stalled and data owed: the flit is held.
-pub fn holds(e: End) -> bool
+// The answer to an arriving flit, of which f is what is read. A flit that is held is checked later, with the one that closes its unit.
+pub fn answer_flit(t: &[u64; 256], e: End, hold: &[u8], flit: &[u8], f: Fields) -> Answer
+    requires { ⌜ (now t ≡ table) × (e .gathered .0 * 64 ≤ length (now hold)) × (e .untold .0 ≤ 1024) × (e .gathered .0 ≤ 8) ⌝ }
+    ensures { λ r. ⌜ r ≡ mode-answer (e .mode) e f (right (checked e (now (hold .entry)) (now (flit .entry)))) ⌝ }
+{
+    if is_held(e) {
+        return Answer::Held;
+    }
+    let correct = checked_right(t, e, hold, flit);
+    answer_to(e, f, correct)
+}
+
+// In mode run, not stalled and data owed: the flit is held.
+fn is_held(e: End) -> bool
+    ensures { λ r. ⌜ r ≡ held-in (e .mode) e ⌝ }
+{
+    let mode = e.mode;
+    match mode {
+        Mode::Run => holds(e),
+        Mode::Wait => false,
+        Mode::Down => false,
+    }
+}
+
+// Not stalled and data owed.
+fn holds(e: End) -> bool
     ensures { λ r. ⌜ r ≡ holds-of e ⌝ }
 {
     !e.stalled & (e.gathered.0 < e.owed.0)
@@ -42,7 +66,7 @@ fn closes(e: End) -> bool
 }
 
 // The check over the flit with its data where it closes a unit in mode run, else over the flit alone.
-pub fn checked_right(t: &[u64; 256], e: End, hold: &[u8], flit: &[u8]) -> bool
+fn checked_right(t: &[u64; 256], e: End, hold: &[u8], flit: &[u8]) -> bool
     requires { ⌜ (now t ≡ table) × (e .gathered .0 * 64 ≤ length (now hold)) ⌝ }
     ensures { λ r. ⌜ r ≡ right (checked e (now (hold .entry)) (now (flit .entry))) ⌝ }
 {
@@ -192,8 +216,8 @@ fn wait_answer(e: End, f: Fields, correct: bool) -> Answer
     Answer::Discarded
 }
 
-// The answer to a flit.
-pub fn answer_to(e: End, f: Fields, correct: bool) -> Answer
+// By mode.
+fn answer_to(e: End, f: Fields, correct: bool) -> Answer
     requires { ⌜ (e .untold .0 ≤ 1024) × (e .gathered .0 ≤ 8) ⌝ }
     ensures { λ r. ⌜ r ≡ mode-answer (e .mode) e f correct ⌝ }
 {

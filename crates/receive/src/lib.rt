@@ -43,8 +43,7 @@ pub fn receive_with(t: &[u64; 256], e: End, store: &[u8], hold: &mut [u8], flit:
         },
         Verdict::Admitted => {
             let fields = flits::read::fields(flit);
-            let correct = answers::checked_right(t, e, &hold[..], flit);
-            let answer = answers::answer_to(e, fields, correct);
+            let answer = answers::answer_flit(t, e, &hold[..], flit, fields);
             let end = moved::end_after(answer, e, store, fields);
             write_hold(answer, e, hold, flit);
             Received {

@@ -1,10 +1,12 @@
-use mathlib.Core.Path.{_≡_, sym, ap, ap₂, _∙_}
+use mathlib.Core.Path.{_≡_, sym, ap, _∙_}
 use native.Mathlib.Omega.{arith}
 use borrow.Author.Needs.{needs}
 use lib.ListN.{length}
-use Rattle.ends.proofs.Facts.{sound-is}
+use Rattle.crc.specs.Unit.{right}
+use Rattle.flits.specs.declared.Fields.{Fields}
 use Rattle.ends.specs.declared.state.Verdict.{Verdict}
-use Rattle.answers.specs.Answers.{mode-answer}
+use Rattle.ends.proofs.Facts.{sound-is}
+use Rattle.answers.specs.Answers.{checked, mode-answer}
 use Rattle.receive.specs.Receive.{end-after, hold-after, answer-by, answer-to, receive, receive-hold}
 use Rattle.receive.proofs.Admission.{admission}
 use Rattle.receive.proofs.receive_with.Statement.{statement}
@@ -26,31 +28,24 @@ fields-requires c κs =
     let k = sound-is (a .e) (a .store .now) (m .is-sound) .counts in
     omega arith
 
-checked-right-requires : tie.Need-checked-right-requires
-checked-right-requires c κs =
+answer-flit-requires : tie.Need-answer-flit-requires
+answer-flit-requires c κs =
     let a = c .before .before .before .before .before .before .before .before .args in
     let m = admission (a .e) (a .store .now) (length (a .hold .now)) (length (a .flit .now)) (sym (c .before .before .before .before .verdict .ensures) ∙ c .before .before .enum-told .given .1) in
     let k = sound-is (a .e) (a .store .now) (m .is-sound) .counts in
-    (c .before .before .before .before .before .before .before .before .pre, omega arith)
-
-answer-to-requires : tie.Need-answer-to-requires
-answer-to-requires c κs =
-    let a = c .before .before .before .before .before .before .before .before .before .args in
-    let m = admission (a .e) (a .store .now) (length (a .hold .now)) (length (a .flit .now)) (sym (c .before .before .before .before .before .verdict .ensures) ∙ c .before .before .before .enum-told .given .1) in
-    let k = sound-is (a .e) (a .store .now) (m .is-sound) .counts in
-    omega arith
+    (c .before .before .before .before .before .before .before .before .pre, omega arith, omega arith, omega arith)
 
 end-after-requires : tie.Need-end-after-requires
 end-after-requires c κs =
-    let a = c .before .before .before .before .before .before .before .before .before .before .args in
-    let m = admission (a .e) (a .store .now) (length (a .hold .now)) (length (a .flit .now)) (sym (c .before .before .before .before .before .before .verdict .ensures) ∙ c .before .before .before .before .enum-told .given .1) in
+    let a = c .before .before .before .before .before .before .before .before .before .args in
+    let m = admission (a .e) (a .store .now) (length (a .hold .now)) (length (a .flit .now)) (sym (c .before .before .before .before .before .verdict .ensures) ∙ c .before .before .before .enum-told .given .1) in
     let k = sound-is (a .e) (a .store .now) (m .is-sound) .counts in
-    (m .its-store, m .is-sound, (c .before .checked-right .result, c .answer-to .ensures))
+    (m .its-store, m .is-sound, (right (checked (a .e) (a .hold .now) (a .flit .now)), c .answer-flit .ensures))
 
 write-hold-requires : tie.Need-write-hold-requires
 write-hold-requires c κs =
-    let a = c .before .before .before .before .before .before .before .before .before .before .before .before .args in
-    let m = admission (a .e) (a .store .now) (length (a .hold .now)) (length (a .flit .now)) (sym (c .before .before .before .before .before .before .before .before .verdict .ensures) ∙ c .before .before .before .before .before .before .enum-told .given .1) in
+    let a = c .before .before .before .before .before .before .before .before .before .before .before .args in
+    let m = admission (a .e) (a .store .now) (length (a .hold .now)) (length (a .flit .now)) (sym (c .before .before .before .before .before .before .before .verdict .ensures) ∙ c .before .before .before .before .before .enum-told .given .1) in
     let k = sound-is (a .e) (a .store .now) (m .is-sound) .counts in
     omega arith
 
@@ -66,13 +61,14 @@ same-length c = search needs
 returns-2 : tie.Need-returns-2
 unfolding receive receive-hold answer-to
 returns-2 c =
-    let a = c .before .before .before .before .before .before .before .before .before .before .before .before .before .before .before .args in
-    let v = sym (c .before .before .before .before .before .before .before .before .before .before .before .verdict .ensures) ∙ c .before .before .before .before .before .before .before .before .before .enum-told .given .1 in
-    let x : c .before .before .before .before .before .answer-to .result ≡ answer-to (a .e) (a .store .now) (a .hold .now) (a .flit .now) =
-    c .before .before .before .before .before .answer-to .ensures
-    ∙ ap₂ (mode-answer (a .e .mode) (a .e)) (c .before .before .before .before .before .before .before .before .fields .ensures) (c .before .before .before .before .before .before .checked-right .ensures)
+    let a = c .before .before .before .before .before .before .before .before .before .before .before .before .before .before .args in
+    let v = sym (c .before .before .before .before .before .before .before .before .before .before .verdict .ensures) ∙ c .before .before .before .before .before .before .before .before .enum-told .given .1 in
+    let correct = right (checked (a .e) (a .hold .now) (a .flit .now)) in
+    let x : c .before .before .before .before .before .answer-flit .result ≡ answer-to (a .e) (a .store .now) (a .hold .now) (a .flit .now) =
+    c .before .before .before .before .before .answer-flit .ensures
+    ∙ ap (λ (f : Fields). mode-answer (a .e .mode) (a .e) f correct) (c .before .before .before .before .before .before .before .fields .ensures)
     ∙ sym (ap (λ (z : Verdict). answer-by z (a .e) (a .hold .now) (a .flit .now)) v) in
-    (cc (c .before .before .before .before .end-after .ensures, c .before .before .before .before .before .before .before .before .fields .ensures, x), cc (c .before .before .write-hold .ensures, x))
+    (cc (c .before .before .before .before .end-after .ensures, c .before .before .before .before .before .before .before .fields .ensures, x), cc (c .before .before .write-hold .ensures, x))
 
 pub receive-with-spec : {M : Type 1} → statement M
 receive-with-spec =
@@ -82,8 +78,7 @@ receive-with-spec =
     enum-known-r
     enum-told
     fields-requires
-    checked-right-requires
-    answer-to-requires
+    answer-flit-requires
     end-after-requires
     write-hold-requires
     returns
