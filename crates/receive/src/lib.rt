@@ -1,6 +1,6 @@
 // Receive takes one arriving flit (01, "Receive").
-pub mod acknowledge;
-pub mod moved;
+mod acknowledge;
+mod moved;
 
 use answers::Answer;
 use ends::judge;

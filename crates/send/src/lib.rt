@@ -1,5 +1,5 @@
 // Send writes what goes on the wire next (01, "Send").
-pub mod burst;
+mod burst;
 
 use ends::judge;
 use ends::state::End;
