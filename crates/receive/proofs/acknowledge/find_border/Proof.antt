@@ -1,4 +1,3 @@
-use mathlib.Core.Bool.{true, false}
 use mathlib.Core.Path.{_≡_, refl, sym, ap, _∙_}
 use Prim.Native.Nat.{_+_, _*_, _-_, _≤_}
 use native.Mathlib.Omega.{arith}
@@ -55,20 +54,37 @@ add-n c = omega arith
 loop-less : tie.Need-loop-less Inv-loop μ-loop
 loop-less c = omega arith
 
+-- one flit more is passed
+further : (c : tie.After-passed Inv-loop μ-loop)
+    → c .passed .result
+    ≡ walk (c .before .before .before .before .before .before .before .args .e .capacity .0)
+    (c .before .before .before .before .before .before .before .args .e .first)
+    (c .before .before .before .before .before .begun .result)
+    (c .before .before .before .before .before .before .before .args .store .now)
+    (c .before .before .before .before .loop .n + 1)
+further c =
+    let l = c .before .before .before .before .loop in
+    let a = c .before .before .before .before .before .before .before .args in
+    let w₀ = c .before .before .before .before .before .begun .result in
+    let p = c .before .before .place .result in
+    let f = flit-is (a .store .now) p (p * 64) (p * 64 + 64 - p * 64) refl (omega arith) in
+    cc (
+      c .passed .ensures,
+      f,
+      c .before .before .place .ensures .0,
+      l .inv .1,
+      walk-step (a .e .capacity .0) (a .e .first) w₀ (a .store .now) (l .n),
+    )
+
 loop-again : tie.Need-loop-again Inv-loop μ-loop
 loop-again c =
     let l = c .before .before .before .before .before .loop in
     let a = c .before .before .before .before .before .before .before .before .args in
     let w₀ = c .before .before .before .before .before .before .begun .result in
-    let p = c .before .before .before .place .result in
-    let f = flit-is (a .store .now) p (p * 64) (p * 64 + 64 - p * 64) refl (omega arith) in
-    let k = a .e .capacity .0 in
-    let i = a .e .first in
-    let s = a .store .now in
-    let w : c .before .passed .result ≡ walk k i w₀ s (l .n + 1) =
-    cc (c .before .passed .ensures, f, c .before .before .before .place .ensures .0, l .inv .1, walk-step k i w₀ s (l .n)) in
-    let b : walk k i w₀ s (l .n + 1) .border ≡ true = ap (λ (x : Walk). x .border) (sym w) ∙ c .if1 .taken in
-    (omega arith, w, sym (border-step k i w₀ s (l .n) ∙ pick-true _ (l .n + 1) _ b), ap (λ (x : Walk). x .run) w)
+    let w = further (c .before) in
+    let b = ap (λ (x : Walk). x .border) (sym w) ∙ c .if1 .taken in
+    let step = border-step (a .e .capacity .0) (a .e .first) w₀ (a .store .now) (l .n) in
+    (omega arith, w, sym (step ∙ pick-true _ (l .n + 1) _ b), ap (λ (x : Walk). x .run) w)
 
 loop-less-2 : tie.Need-loop-less-2 Inv-loop μ-loop
 loop-less-2 c = omega arith
@@ -78,15 +94,10 @@ loop-again-2 c =
     let l = c .before .before .before .before .before .loop in
     let a = c .before .before .before .before .before .before .before .before .args in
     let w₀ = c .before .before .before .before .before .before .begun .result in
-    let p = c .before .before .before .place .result in
-    let f = flit-is (a .store .now) p (p * 64) (p * 64 + 64 - p * 64) refl (omega arith) in
-    let k = a .e .capacity .0 in
-    let i = a .e .first in
-    let s = a .store .now in
-    let w : c .before .passed .result ≡ walk k i w₀ s (l .n + 1) =
-    cc (c .before .passed .ensures, f, c .before .before .before .place .ensures .0, l .inv .1, walk-step k i w₀ s (l .n)) in
-    let b : walk k i w₀ s (l .n + 1) .border ≡ false = ap (λ (x : Walk). x .border) (sym w) ∙ c .if1 .left in
-    (omega arith, w, l .inv .2 ∙ sym (border-step k i w₀ s (l .n) ∙ pick-false _ (l .n + 1) _ b), l .inv .3)
+    let w = further (c .before) in
+    let b = ap (λ (x : Walk). x .border) (sym w) ∙ c .if1 .left in
+    let step = border-step (a .e .capacity .0) (a .e .first) w₀ (a .store .now) (l .n) in
+    (omega arith, w, l .inv .2 ∙ sym (step ∙ pick-false _ (l .n + 1) _ b), l .inv .3)
 
 returns : tie.Need-returns Inv-loop μ-loop
 returns c =

@@ -1,16 +1,33 @@
-use mathlib.Core.Path.{sym, ap, _∙_}
+use mathlib.Core.Bool.{false}
+use mathlib.Core.Path.{_≡_, sym, ap, _∙_}
+use Prim.Native.Nat.{ℕ}
 use native.Mathlib.Omega.{arith}
 use borrow.Author.Needs.{needs}
+use Rattle.ends.proofs.Facts.{Counted, sound-is}
 use Rattle.ends.specs.Update.{with-mode, with-discards}
 use Rattle.ends.specs.declared.state.End.{End}
 use Rattle.ends.specs.declared.state.Mode.the-variants.{Run}
-use Rattle.ends.proofs.Facts.{sound-is}
-use Rattle.answers.specs.Answers.{newly-covered}
+use Rattle.answers.specs.Answers.{past-sent, newly-covered}
+use Rattle.answers.proofs.Found.{Fits}
 use Rattle.answers.specs.declared.Answer.{Answer}
+use Rattle.receive.specs.Acknowledge.{Covered}
 use Rattle.receive.specs.Receive.{ahead-in, end-after}
-use Rattle.receive.proofs.Covering.{Fitting, covering, told, discards-replaced}
+use Rattle.receive.proofs.Covering.{covering, told, discards-replaced}
 use Rattle.receive.proofs.moved.end_after.Statement.{statement}
 use Rattle.receive.proofs.moved.end_after.Tie as tie
+
+-- what is known at the start: the counts, what an acknowledgement that is not past sent covers, and what the answer says
+counts : (s : tie.Start) → Counted (s .args .e)
+counts s = sound-is (s .args .e) (s .args .store .now) (s .pre .1) .counts
+
+covers : (s : tie.Start) (n : ℕ) → past-sent (s .args .e) n ≡ false → Covered (s .args .e) (s .args .store .now) n
+covers s n h =
+    covering (s .args .e) (s .args .store .now) n
+    (record { oldest = s .good .1 .0 .1 .1 .1 .1 .1 .1 .1 .1 .1 .1 .1 .0 .1 .1 .0 .1; acknowledged = s .good .1 .0 .1 .1 .1 .1 .1 .1 .1 .1 .1 .1 .1 .1 .1 .1 .0 .1 .1 .0 .1; sent = s .good .1 .0 .1 .1 .1 .1 .1 .1 .1 .1 .1 .1 .1 .1 .1 .0 .1 .1 .0 .1 })
+    (s .pre .0) (s .pre .1) h
+
+says : (s : tie.Start) (z : Answer) → s .args .answer ≡ z → Fits z (s .args .e) (s .args .f)
+says s z h = told (s .args .answer) z (s .args .e) (s .args .f) (s .pre .2) h
 
 enum-told : tie.Need-enum-told
 enum-told c = search needs
@@ -19,57 +36,41 @@ enum-told-2 : tie.Need-enum-told-2
 enum-told-2 c = search needs
 
 held-requires : tie.Need-held-requires
-held-requires c κs =
-    let k = sound-is (c .before .before .before .args .e) (c .before .before .before .args .store .now) (c .before .before .before .pre .1) .counts in
-    omega arith
+held-requires c κs = let k = counts (c .before .before .before) in omega arith
 
 enum-told-3 : tie.Need-enum-told-3
 enum-told-3 c = search needs
 
 delivered-requires : tie.Need-delivered-requires
 delivered-requires c κs =
-    let a = c .before .before .before .args in
-    let p = c .before .before .before .pre in
-    let k = sound-is (a .e) (a .store .now) (p .1) .counts in
-    let g : Fitting (a .e) = record { oldest = c .before .before .before .good .1 .0 .1 .1 .1 .1 .1 .1 .1 .1 .1 .1 .1 .0 .1 .1 .0 .1; acknowledged = c .before .before .before .good .1 .0 .1 .1 .1 .1 .1 .1 .1 .1 .1 .1 .1 .1 .1 .1 .0 .1 .1 .0 .1; sent = c .before .before .before .good .1 .0 .1 .1 .1 .1 .1 .1 .1 .1 .1 .1 .1 .1 .1 .0 .1 .1 .0 .1 } in
-    let z = told (a .answer) _ (a .e) (a .f) (p .2) (c .enum-told3 .given .1) in
-    (covering (a .e) (a .store .now) (a .f .acks .0) g (p .0) (p .1) (z .within), omega arith, omega arith)
+    let s = c .before .before .before in
+    let k = counts s in
+    (covers s (s .args .f .acks .0) (says s _ (c .enum-told3 .given .1) .within), omega arith, omega arith)
 
 enum-told-4 : tie.Need-enum-told-4
 enum-told-4 c = search needs
 
 closed-requires : tie.Need-closed-requires
 closed-requires c κs =
-    let a = c .before .before .before .args in
-    let p = c .before .before .before .pre in
-    let k = sound-is (a .e) (a .store .now) (p .1) .counts in
-    let g : Fitting (a .e) = record { oldest = c .before .before .before .good .1 .0 .1 .1 .1 .1 .1 .1 .1 .1 .1 .1 .1 .0 .1 .1 .0 .1; acknowledged = c .before .before .before .good .1 .0 .1 .1 .1 .1 .1 .1 .1 .1 .1 .1 .1 .1 .1 .1 .0 .1 .1 .0 .1; sent = c .before .before .before .good .1 .0 .1 .1 .1 .1 .1 .1 .1 .1 .1 .1 .1 .1 .1 .0 .1 .1 .0 .1 } in
-    let z = told (a .answer) _ (a .e) (a .f) (p .2) (c .enum-told4 .given .1) in
-    (covering (a .e) (a .store .now) (a .f .acks .0) g (p .0) (p .1) (z .within), omega arith)
+    let s = c .before .before .before in
+    let k = counts s in
+    (covers s (s .args .f .acks .0) (says s _ (c .enum-told4 .given .1) .within), omega arith)
 
 enum-told-5 : tie.Need-enum-told-5
 enum-told-5 c = search needs
 
 idled-requires : tie.Need-idled-requires
 idled-requires c κs =
-    let a = c .before .before .before .args in
-    let p = c .before .before .before .pre in
-    let k = sound-is (a .e) (a .store .now) (p .1) .counts in
-    let g : Fitting (a .e) = record { oldest = c .before .before .before .good .1 .0 .1 .1 .1 .1 .1 .1 .1 .1 .1 .1 .1 .0 .1 .1 .0 .1; acknowledged = c .before .before .before .good .1 .0 .1 .1 .1 .1 .1 .1 .1 .1 .1 .1 .1 .1 .1 .1 .0 .1 .1 .0 .1; sent = c .before .before .before .good .1 .0 .1 .1 .1 .1 .1 .1 .1 .1 .1 .1 .1 .1 .1 .0 .1 .1 .0 .1 } in
-    let z = told (a .answer) _ (a .e) (a .f) (p .2) (c .enum-told5 .given .1) in
-    covering (a .e) (a .store .now) (a .f .acks .0) g (p .0) (p .1) (z .within)
+    let s = c .before .before .before in
+    covers s (s .args .f .acks .0) (says s _ (c .enum-told5 .given .1) .within)
 
 enum-told-6 : tie.Need-enum-told-6
 enum-told-6 c = search needs
 
 replaced-requires : tie.Need-replaced-requires
 replaced-requires c κs =
-    let a = c .before .before .before .args in
-    let p = c .before .before .before .pre in
-    let k = sound-is (a .e) (a .store .now) (p .1) .counts in
-    let g : Fitting (a .e) = record { oldest = c .before .before .before .good .1 .0 .1 .1 .1 .1 .1 .1 .1 .1 .1 .1 .1 .0 .1 .1 .0 .1; acknowledged = c .before .before .before .good .1 .0 .1 .1 .1 .1 .1 .1 .1 .1 .1 .1 .1 .1 .1 .1 .0 .1 .1 .0 .1; sent = c .before .before .before .good .1 .0 .1 .1 .1 .1 .1 .1 .1 .1 .1 .1 .1 .1 .1 .0 .1 .1 .0 .1 } in
-    let z = told (a .answer) _ (a .e) (a .f) (p .2) (c .enum-told6 .given .1) in
-    covering (a .e) (a .store .now) (newly-covered (a .e) (a .f .last .0)) g (p .0) (p .1) (z .within)
+    let s = c .before .before .before in
+    covers s (newly-covered (s .args .e) (s .args .f .last .0)) (says s _ (c .enum-told6 .given .1) .within)
 
 with-mode-requires : tie.Need-with-mode-requires
 with-mode-requires c κs = search needs
@@ -79,18 +80,17 @@ enum-told-7 c = search needs
 
 replaced-requires-2 : tie.Need-replaced-requires-2
 replaced-requires-2 c κs =
-    let a = c .before .before .before .args in
-    let p = c .before .before .before .pre in
-    let k = sound-is (a .e) (a .store .now) (p .1) .counts in
-    let g : Fitting (a .e) = record { oldest = c .before .before .before .good .1 .0 .1 .1 .1 .1 .1 .1 .1 .1 .1 .1 .1 .0 .1 .1 .0 .1; acknowledged = c .before .before .before .good .1 .0 .1 .1 .1 .1 .1 .1 .1 .1 .1 .1 .1 .1 .1 .1 .0 .1 .1 .0 .1; sent = c .before .before .before .good .1 .0 .1 .1 .1 .1 .1 .1 .1 .1 .1 .1 .1 .1 .1 .0 .1 .1 .0 .1 } in
-    let z = told (a .answer) _ (a .e) (a .f) (p .2) (c .enum-told7 .given .1) in
-    covering (a .e) (a .store .now) (newly-covered (a .e) (a .f .last .0)) g (p .0) (p .1) (z .within)
+    let s = c .before .before .before in
+    covers s (newly-covered (s .args .e) (s .args .f .last .0)) (says s _ (c .enum-told7 .given .1) .within)
 
 ahead-requires : tie.Need-ahead-requires
 ahead-requires c κs =
-    let a = c .before .before .before .before .args in
-    let k = sound-is (a .e) (a .store .now) (c .before .before .before .before .pre .1) .counts in
-    omega (arith, ap (λ (z : End). z .discards) (c .replaced2 .ensures) ∙ discards-replaced (a .e) (a .store .now) (a .f))
+    let s = c .before .before .before .before in
+    let k = counts s in
+    omega (
+      arith,
+      ap (λ (z : End). z .discards) (c .replaced2 .ensures) ∙ discards-replaced (s .args .e) (s .args .store .now) (s .args .f),
+    )
 
 enum-told-8 : tie.Need-enum-told-8
 enum-told-8 c = search needs
@@ -105,9 +105,7 @@ enum-told-10 : tie.Need-enum-told-10
 enum-told-10 c = search needs
 
 discarded-requires : tie.Need-discarded-requires
-discarded-requires c κs =
-    let k = sound-is (c .before .before .before .args .e) (c .before .before .before .args .store .now) (c .before .before .before .pre .1) .counts in
-    omega arith
+discarded-requires c κs = let k = counts (c .before .before .before) in omega arith
 
 enum-known-answer : tie.Need-enum-known-answer
 enum-known-answer c = search needs
