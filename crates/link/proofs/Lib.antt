@@ -1,0 +1,9 @@
+pub mod Num
+pub mod Chain
+pub mod Inv
+pub mod Ack
+pub mod Receive
+pub mod Send
+pub mod Begin
+pub mod Clean
+pub mod Tidy

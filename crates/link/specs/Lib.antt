@@ -1,0 +1,3 @@
+pub mod Stream
+pub mod End
+pub mod Step

@@ -1,0 +1,1 @@
+// The abstract link: a crate of definitions and theorems, with no code of its own.

@@ -1,0 +1,3 @@
+pub mod Damage
+pub mod System
+pub mod Theorem
