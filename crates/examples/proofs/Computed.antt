@@ -1,4 +1,4 @@
--- The three runs of specs/Examples.antt, computed. Assumes nothing.
+-- The runs of specs/Examples.antt, computed. Assumes nothing.
 use mathlib.Core.Path.{_≡_, refl, ap, sym, subst, _∙_}
 use mathlib.Core.Bool.{Bool, true, false, _&&_, true≢false}
 use mathlib.Core.List.{List, [], _∷_, _++_}
@@ -29,7 +29,7 @@ use Rattle.wire.specs.Damage.{window-bits, Damage, unaltered, odd-bits, near-bi
 use Rattle.wire.specs.System as system
 use Rattle.wire.specs.System.{run, turned, Lent, Fair, FairBy}
 use Rattle.wire.specs.Theorem.{FirstPart, Demand}
-use Rattle.examples.specs.Examples.{fresh-pair, output, answers-in, outcome, unit-a, unit-b, a-sent, a-hurt, b-sent, asks, starts, full-run, owes-one, lures, closes-lure, owes-sent, owes-hurt, idle-sent, lure-sent, lured-run, no-unit, stretched, stretched-run, Wider}
+use Rattle.examples.specs.Examples.{fresh-pair, output, answers-in, outcome, unit-a, unit-b, a-sent, a-hurt, b-sent, asks, starts, full-run, unit-1, unit-2, unit-3, sent-1, sent-2, sent-3, hurt-3, data-run, owes-one, lures, closes-lure, owes-sent, owes-hurt, idle-sent, lure-sent, lured-run, no-unit, stretched, stretched-run, Wider}
 use Rattle.wire.proofs.Pieces.{flit-alone}
 use Rattle.wire.proofs.Acceptance.{third-test}
 
@@ -127,6 +127,68 @@ lent = record { capacity = 9; least = omega arith; most = omega arith; size = re
 pub full-demand : Demand (run full-run fresh-pair) × Demand (turned (run full-run fresh-pair))
 unfolding fresh-pair
 full-demand = third-test (replicate 576 0) (replicate 576 0) (replicate 576 0) (replicate 576 0) lent lent full-run full-fair
+
+-- ---- data, and damage across two flits
+
+-- past two flits there is none
+none-after-two : (v : List ℕ) → length v ≡ 128 → (i : ℕ) → reads-replay (flit-at v (suc (suc i))) ≡ false
+unfolding ring.flit-at reads-replay fields.fields-of bytes.number unit.right unit.bits unit.polynomial
+none-after-two v h i =
+    let e : length v ≤ suc (suc i) * 64 = omega arith in
+    ap (λ (x : List ℕ). reads-replay (take 64 x)) (drop-of-length-le v {i = suc (suc i) * 64} e)
+
+no-replay-two : (u v : List ℕ) → length v ≡ 128 → reads-replay (flit-at v 0) ≡ false → reads-replay (flit-at v 1) ≡ false → NoReplay u v
+no-replay-two u v h r t s zero = r
+no-replay-two u v h r t s (suc zero) = t
+no-replay-two u v h r t s (suc (suc i)) = none-after-two v h i
+
+data-1 : Bytes unit-1
+unfolding unit-1
+data-1 = bytes-tested unit-1 refl
+
+data-2 : Bytes unit-2
+unfolding unit-2
+data-2 = bytes-tested unit-2 refl
+
+data-3 : Bytes unit-3
+unfolding unit-3
+data-3 = bytes-tested unit-3 refl
+
+arrives-1 : Arrives sent-1 sent-1
+unfolding ring.flit-at unit.bits unit.polynomial unit.right fields.fields-of bytes.number reads-replay sent-replay sent-1
+arrives-1 = same sent-1 refl refl
+
+arrives-idle : Arrives idle-sent idle-sent
+unfolding ring.flit-at unit.bits unit.polynomial unit.right fields.fields-of bytes.number reads-replay sent-replay idle-sent
+arrives-idle = same idle-sent refl refl
+
+arrives-2 : Arrives sent-2 sent-2
+unfolding ring.flit-at unit.bits unit.polynomial unit.right fields.fields-of bytes.number reads-replay sent-replay sent-2
+arrives-2 = record { damage = unaltered refl; no-replay = no-replay-two sent-2 sent-2 refl refl refl }
+
+altered-3 : Arrives sent-3 hurt-3
+unfolding ring.flit-at unit.bits unit.polynomial unit.right fields.fields-of bytes.number reads-replay sent-replay sent-3 hurt-3
+altered-3 =
+    record {
+      damage =
+          near-bits refl (bytes-tested hurt-3 refl)
+          (record { before = 511; window = true ∷ true ∷ []; after = 511; narrow = omega arith; only = refl });
+      no-replay = no-replay-two sent-3 hurt-3 refl refl refl;
+    }
+
+pub data-fair : Fair data-run fresh-pair
+unfolding numbers.acknowledge-number numbers.after numbers.difference numbers.wanted-by unit.bits unit.polynomial unit.right seal.checkOf seal.sealed seal.withCheck bytes.bytes bytes.number fields.acceptable fields.fields-of flits.bare-control flits.control-told flits.idle-flit flits.replay-flit state.fresh state.start state.store-fits ring.begun ring.flit-at ring.passed ring.place ring.put-at ring.walk refusals.counts-sound refusals.numbers-sound refusals.sound refusals.store-is refusals.units-sound accept.accept accept.accept-store accept.unit-shaped accept.verdict accept.written send.burst send.burst-flits send.moved send.replay-sent send.send send.send-output send.stored-flits send.unit-sent send.verdict answers.closes answers.damaged answers.holds answers.length-wrong answers.newly-covered answers.past-sent answers.plain-answer answers.replay-answer answers.run-answer answers.skips answers.stall-wrong answers.straddles answers.wait-answer acknowledge.acknowledged acknowledge.freed acknowledge.last-border receive.answer-to receive.closed receive.delivered receive.discarded receive.end-after receive.hold-after receive.receive receive.receive-hold receive.replaced receive.verdict receive.waiting damage.reads-replay damage.sent-replay damage.units-of system.on-the-way fresh-pair output unit-1 unit-2 unit-3 idle-sent sent-1 sent-2 sent-3 hurt-3 data-run
+data-fair =
+    (data-1, (data-2, (data-3, ((omega arith, omega arith, (arrives-1, tt)), ((omega arith, omega arith, (arrives-idle, (arrives-2, tt))), ((omega arith, omega arith, (arrives-idle, (altered-3, tt))), (tt, (tt, (tt, (tt, (tt, (tt, (tt, tt)))))))))))))
+
+pub data-answers : answers-in data-run fresh-pair
+    ≡ answer.Delivered (record { 0 = 0 }) ∷ answer.Idle ∷ answer.Held ∷ answer.Delivered (record { 0 = 1 }) ∷ answer.Idle ∷ answer.Held ∷ answer.Damaged ∷ []
+unfolding numbers.acknowledge-number numbers.after numbers.difference numbers.wanted-by unit.bits unit.polynomial unit.right seal.checkOf seal.sealed seal.withCheck bytes.bytes bytes.number fields.acceptable fields.fields-of flits.bare-control flits.control-told flits.idle-flit flits.replay-flit state.fresh state.start state.store-fits ring.begun ring.flit-at ring.passed ring.place ring.put-at ring.walk refusals.counts-sound refusals.numbers-sound refusals.sound refusals.store-is refusals.units-sound accept.accept accept.accept-store accept.unit-shaped accept.verdict accept.written send.burst send.burst-flits send.moved send.replay-sent send.send send.send-output send.stored-flits send.unit-sent send.verdict answers.closes answers.damaged answers.holds answers.length-wrong answers.newly-covered answers.past-sent answers.plain-answer answers.replay-answer answers.run-answer answers.skips answers.stall-wrong answers.straddles answers.wait-answer acknowledge.acknowledged acknowledge.freed acknowledge.last-border receive.answer-to receive.closed receive.delivered receive.discarded receive.end-after receive.hold-after receive.receive receive.receive-hold receive.replaced receive.verdict receive.waiting damage.reads-replay damage.sent-replay damage.units-of system.on-the-way fresh-pair output unit-1 unit-2 unit-3 idle-sent sent-1 sent-2 sent-3 hurt-3 data-run
+data-answers = refl
+
+pub data-outcome : outcome (run data-run fresh-pair) ≡ (unit-1 ∷ unit-2 ∷ [], [], unit-1 ∷ unit-2 ∷ unit-3 ∷ [])
+unfolding numbers.acknowledge-number numbers.after numbers.difference numbers.wanted-by unit.bits unit.polynomial unit.right seal.checkOf seal.sealed seal.withCheck bytes.bytes bytes.number fields.acceptable fields.fields-of flits.bare-control flits.control-told flits.idle-flit flits.replay-flit state.fresh state.start state.store-fits ring.begun ring.flit-at ring.passed ring.place ring.put-at ring.walk refusals.counts-sound refusals.numbers-sound refusals.sound refusals.store-is refusals.units-sound accept.accept accept.accept-store accept.unit-shaped accept.verdict accept.written send.burst send.burst-flits send.moved send.replay-sent send.send send.send-output send.stored-flits send.unit-sent send.verdict answers.closes answers.damaged answers.holds answers.length-wrong answers.newly-covered answers.past-sent answers.plain-answer answers.replay-answer answers.run-answer answers.skips answers.stall-wrong answers.straddles answers.wait-answer acknowledge.acknowledged acknowledge.freed acknowledge.last-border receive.answer-to receive.closed receive.delivered receive.discarded receive.end-after receive.hold-after receive.receive receive.receive-hold receive.replaced receive.verdict receive.waiting damage.reads-replay damage.sent-replay damage.units-of system.on-the-way fresh-pair output unit-1 unit-2 unit-3 idle-sent sent-1 sent-2 sent-3 hurt-3 data-run
+data-outcome = refl
 
 -- ---- a wrong unit is no first part
 

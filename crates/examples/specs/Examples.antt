@@ -1,5 +1,5 @@
--- Three runs. The first has damage, replay, a duplicate and deliveries both ways, and is as the buyer says: so the third test of acceptance
--- speaks of something. The other two show that its premises are needed: without the one on replay flits, and with 37 neighbouring bits in
+-- Four runs. The first has damage, replay, a duplicate and deliveries both ways, the second data and damage across two flits, and both are
+-- as the buyer says: so the third test of acceptance speaks of something. The other two show that its premises are needed: without the one on replay flits, and with 37 neighbouring bits in
 -- place of 36, a wrong unit is handed on. Assumes nothing.
 use mathlib.Core.List.{List, [], _∷_, _++_}
 use Prim.Native.Nat.{ℕ, suc}
@@ -87,6 +87,53 @@ full-run =
     ∷ of-b (sends 7 5 output (b-sent ∷ []))
     ∷ of-a receives ∷ []
 
+-- ---- data, and damage across two flits
+
+-- the idle flit before a unit with one data flit
+unfoldable pub idle-sent : List ℕ
+idle-sent = replicate 56 0 ++ (31 ∷ 0 ∷ 0 ∷ 64 ∷ 66 ∷ 243 ∷ 71 ∷ 232 ∷ [])
+
+-- three units: the first two owe a data flit each
+unfoldable pub unit-1 : List ℕ
+unit-1 = (4 ∷ []) ++ (replicate 55 0 ++ (1 ∷ []) ++ (replicate 7 0))
+
+unfoldable pub unit-2 : List ℕ
+unit-2 = ((5 ∷ []) ++ (replicate 63 0)) ++ ((6 ∷ []) ++ (replicate 55 0 ++ (1 ∷ []) ++ (replicate 7 0)))
+
+unfoldable pub unit-3 : List ℕ
+unit-3 = ((7 ∷ []) ++ (replicate 63 0)) ++ ((8 ∷ []) ++ (replicate 63 0))
+
+-- as they are sent
+unfoldable pub sent-1 : List ℕ
+sent-1 = (4 ∷ []) ++ (replicate 55 0 ++ (1 ∷ 0 ∷ 8 ∷ 16 ∷ 113 ∷ 39 ∷ 121 ∷ 74 ∷ []))
+
+unfoldable pub sent-2 : List ℕ
+sent-2 = ((5 ∷ []) ++ (replicate 63 0)) ++ ((6 ∷ []) ++ (replicate 55 0 ++ (1 ∷ 0 ∷ 8 ∷ 144 ∷ 209 ∷ 206 ∷ 232 ∷ 171 ∷ [])))
+
+unfoldable pub sent-3 : List ℕ
+sent-3 = ((7 ∷ []) ++ (replicate 63 0)) ++ ((8 ∷ []) ++ (replicate 58 0 ++ (192 ∷ 182 ∷ 15 ∷ 155 ∷ 149 ∷ [])))
+
+-- the third with the last bit of its data flit and the first bit of its control flit altered
+unfoldable pub hurt-3 : List ℕ
+hurt-3 = ((7 ∷ []) ++ (replicate 62 0 ++ (128 ∷ []))) ++ ((9 ∷ []) ++ (replicate 58 0 ++ (192 ∷ 182 ∷ 15 ∷ 155 ∷ 149 ∷ [])))
+
+-- the first two are delivered, the third is damaged
+unfoldable pub data-run : List Event
+data-run =
+    of-a (accepts unit-1)
+    ∷ of-a (accepts unit-2)
+    ∷ of-a (accepts unit-3)
+    ∷ of-a (sends 0 0 output (sent-1 ∷ []))
+    ∷ of-a (sends 0 0 output (idle-sent ∷ sent-2 ∷ []))
+    ∷ of-a (sends 0 0 output (idle-sent ∷ hurt-3 ∷ []))
+    ∷ of-b receives
+    ∷ of-b receives
+    ∷ of-b receives
+    ∷ of-b receives
+    ∷ of-b receives
+    ∷ of-b receives
+    ∷ of-b receives ∷ []
+
 -- ---- the premise on replay flits
 
 -- a unit that owes one data flit, and a unit whose data flit reads as a right replay flit of start 0
@@ -99,15 +146,12 @@ lures = replicate 52 0 ++ (255 ∷ 255 ∷ 0 ∷ 0 ∷ 10 ∷ 0 ∷ 0 ∷ 144 �
 unfoldable pub closes-lure : List ℕ
 closes-lure = (2 ∷ []) ++ (replicate 63 0)
 
--- the first one as it is sent, and with one bit altered; the idle flit before the second one, and the second one as it is sent
+-- the first one as it is sent, and with one bit altered; and the second one as it is sent
 unfoldable pub owes-sent : List ℕ
 owes-sent = replicate 56 0 ++ (1 ∷ 0 ∷ 8 ∷ 64 ∷ 30 ∷ 21 ∷ 223 ∷ 145 ∷ [])
 
 unfoldable pub owes-hurt : List ℕ
 owes-hurt = (1 ∷ []) ++ (replicate 55 0 ++ (1 ∷ 0 ∷ 8 ∷ 64 ∷ 30 ∷ 21 ∷ 223 ∷ 145 ∷ []))
-
-unfoldable pub idle-sent : List ℕ
-idle-sent = replicate 56 0 ++ (31 ∷ 0 ∷ 0 ∷ 64 ∷ 66 ∷ 243 ∷ 71 ∷ 232 ∷ [])
 
 unfoldable pub lure-sent : List ℕ
 lure-sent = (replicate 52 0 ++ (255 ∷ 255 ∷ 0 ∷ 0 ∷ 10 ∷ 0 ∷ 0 ∷ 144 ∷ 253 ∷ 238 ∷ 43 ∷ 167 ∷ [])) ++ ((2 ∷ []) ++ (replicate 58 0 ++ (128 ∷ 164 ∷ 105 ∷ 216 ∷ 137 ∷ [])))

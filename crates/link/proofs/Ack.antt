@@ -1,4 +1,5 @@
--- An acknowledgement, a NACK or damage moves the sender's half of an end. Assumes nothing.
+-- What a receive may do to the sender's half of an end: an acknowledgement, a NACK or damage. It never moves the cursor without making replay
+-- pending, and it never moves sent. Assumes nothing.
 use mathlib.Core.Path.{_≡_, refl}
 use mathlib.Core.Bool.{Bool, true, false, true≢false}
 use Prim.Native.Nat.{ℕ, _+_, _≤_}

@@ -1,4 +1,5 @@
--- Units, the stream of units that an end is given, and the wire. Numbers are absolute: no wrap. Assumes nothing.
+-- Units, the stream of units that an end is given, and the flits on a wire. Numbers count without end here, and the border before a unit is
+-- counted in units: so a border is a border by its kind, and no unit can straddle one. Assumes nothing.
 use mathlib.Core.Bool.{Bool, true, false}
 use mathlib.Core.List.{List, [], _∷_, _++_}
 use Prim.Native.Nat.{ℕ, zero, suc, _+_}

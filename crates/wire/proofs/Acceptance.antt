@@ -32,7 +32,7 @@ use Rattle.link.proofs.Chain.{final, Grows, grows}
 use Rattle.link.proofs.Inv.{At}
 use Rattle.wire.specs.System.{System, Lent, begin, on-the-way, oldest-flit, turned, Event, Fair}
 use Rattle.wire.specs.System
-use Rattle.wire.specs.Theorem.{FirstPart, as-handed, arrived-units, Unaltered, Intact, Demand}
+use Rattle.wire.specs.Theorem.{FirstPart, as-handed, arrived-units, Unaltered, Intact, Demand, ThirdTest}
 use Rattle.wire.proofs.Wrap.{most}
 use Rattle.wire.proofs.Pieces.{joined}
 use Rattle.wire.proofs.Says.{Flight, flit, Reads, units, units-append}
@@ -253,12 +253,15 @@ module _ (store hold store′ hold′ : List ℕ) (h : Lent store hold) (h′ : 
         runs x y f g events (begin store hold store′ hold′) (begin-joint x y f g store hold store′ hold′ h h′) fair
         (record { a = λ i l. refl; b = λ i l. refl; ab = u; ba = v })
 
-    -- the theorem
-    pub third-test : Demand (System.run events (begin store hold store′ hold′)) × Demand (turned (System.run events (begin store hold store′ hold′)))
-    third-test =
+    both-ways : Demand (System.run events (begin store hold store′ hold′)) × Demand (turned (System.run events (begin store hold store′ hold′)))
+    both-ways =
         let f = stream (reached .a .accepted) in
         let g = stream (reached .b .accepted) in
         let j : Joint false false f g reached = beside false false (λ z. absurd (false≢true z)) (λ z. absurd (false≢true z)) in (
           demand f g reached j (λ u. beside true false (λ z. u) (λ z. absurd (false≢true z))),
           demand g f (turned reached) (flip j) (λ u. flip (beside false true (λ z. absurd (false≢true z)) (λ z. u))),
         )
+
+-- the theorem
+pub third-test : ThirdTest
+third-test store hold store′ hold′ h h′ events fair = both-ways store hold store′ hold′ h h′ events fair

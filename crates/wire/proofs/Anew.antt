@@ -11,7 +11,7 @@ use native.Mathlib.Decide.{decLe, ℕ-discrete}
 use borrow.Author.Tests.{lt-ltb, le-ltb, eq-eqb, ne-eqb}
 use lib.Dec.{ltb, eqb}
 use lib.Pow.{pow-pos}
-use Rattle.numbers.specs.Numbers.{width, difference, last-received, wanted-by}
+use Rattle.numbers.specs.Numbers.{width, difference, wanted-by}
 use Rattle.numbers.proofs.Laws.{wanted-told}
 use Rattle.flits.specs.Fields.{fields-of}
 use Rattle.flits.specs.declared.Fields.{Fields}
@@ -33,12 +33,12 @@ use Rattle.link.proofs.Num.{num-le, num-lt}
 use Rattle.link.proofs.Chain.{Chain}
 use Rattle.link.proofs.Inv.{Local}
 use Rattle.link.proofs.Receive.{Given}
-use Rattle.wire.proofs.Wrap.{wrap, most, difference-up, difference-down}
-use Rattle.wire.proofs.Stands.{Stands, Formed}
+use Rattle.wire.proofs.Wrap.{meaning, wrap, most, difference-up, difference-down}
+use Rattle.wire.proofs.Stands.{restand, Stands, Formed}
 use Rattle.wire.proofs.Credit.{Same, Credited, credits, nacked-stands, pending-stands}
 use Rattle.wire.proofs.Says.{patience, Flight, flit, SaysReplay, mode-of, units, Kept}
 use Rattle.wire.proofs.Arrive
-use Rattle.wire.proofs.Arrive.{restand, Came, Followed, same-nacked}
+use Rattle.wire.proofs.Arrive.{Came, Followed, same-nacked}
 
 module _ (f g : Stream) (store : List ℕ) (e : End) (d : Chain) (q : KeptEnd) (hold : List ℕ) (handed : List (List ℕ))
     (fo : Formed f (e .s .accepted)) (st : Stands f store (e .s) q) (k : Kept g (e .r) q hold handed) (small : e .r .owes ≤ 8)
@@ -69,7 +69,7 @@ module _ (f g : Stream) (store : List ℕ) (e : End) (d : Chain) (q : KeptEnd) (
       new : newly-covered q (x .last .0) ≡ t - e .s .acked
       unfolding newly-covered
       new =
-          ap₂ (difference width) (ap (wanted-by last-received width) (s .last) ∙ wanted-told width last-received (wrap t) (mod-lt t (pow-pos width))) (st .acked)
+          ap₂ (difference width) (ap (wanted-by meaning width) (s .last) ∙ wanted-told width meaning (wrap t) (mod-lt t (pow-pos width))) (st .acked)
           ∙ difference-up width t (e .s .acked) lower (omega (arith, upper, top, w .own .fits, w .own .freed))
 
       sum : e .s .acked + (t - e .s .acked) ≡ t
@@ -94,9 +94,7 @@ module _ (f g : Stream) (store : List ℕ) (e : End) (d : Chain) (q : KeptEnd) (
       asked-stands =
           subst (λ (z : Bool). Stands f store (Step.nacked na (c .t)) (nacked z (informed (x .information) told))) (sym (s .nack))
           (nacked-stands f store (c .t) (informed (x .information) told) na
-          (restand f store (c .t) told _
-          (record { capacity = refl; first = refl; held = refl; kept = refl; oldest = refl; cursor = refl; sent = refl; acknowledged = refl; pending = refl })
-          (c .stands)))
+          (restand f store (c .t) told _ refl (c .stands)))
 
       asked-same : Same (informed (x .information) told) asked
       asked-same = same-nacked (x .nack) (informed (x .information) told)
@@ -162,9 +160,7 @@ module _ (f g : Stream) (store : List ℕ) (e : End) (d : Chain) (q : KeptEnd) (
                   e′ = record { s = Step.nacked na (c .t); r = Step.placed run p n bt (e .r) };
                   does = replayed (λ v. live (sym m ∙ v)) h (c .acks);
                   stands =
-                      restand f store (Step.nacked na (c .t)) asked _
-                      (record { capacity = refl; first = refl; held = refl; kept = refl; oldest = refl; cursor = refl; sent = refl; acknowledged = refl; pending = refl })
-                      asked-stands;
+                      restand f store (Step.nacked na (c .t)) asked _ refl asked-stands;
                   kept = placed-kept run _ refl refl refl refl refl refl refl (omega arith);
                 };
             counts = λ v. refl;
@@ -179,9 +175,7 @@ module _ (f g : Stream) (store : List ℕ) (e : End) (d : Chain) (q : KeptEnd) (
             e′ = record { s = again (Step.nacked na (c .t)); r = Step.placed wait p n bt (e .r) };
             does = ahead-run m h (c .acks);
             stands =
-                restand f store (again (Step.nacked na (c .t))) _ _
-                (record { capacity = refl; first = refl; held = refl; kept = refl; oldest = refl; cursor = refl; sent = refl; acknowledged = refl; pending = refl })
-                (pending-stands f store (Step.nacked na (c .t)) asked asked-stands);
+                restand f store (again (Step.nacked na (c .t))) _ _ refl (pending-stands f store (Step.nacked na (c .t)) asked asked-stands);
             kept = placed-kept wait _ refl refl refl refl refl refl refl (omega arith);
           }
 
@@ -202,9 +196,7 @@ module _ (f g : Stream) (store : List ℕ) (e : End) (d : Chain) (q : KeptEnd) (
                 e′ = record { s = again (Step.nacked na (c .t)); r = Step.placed wait p n bt (e .r) };
                 does = ahead-wait m h (c .acks) enough;
                 stands =
-                    restand f store (again (Step.nacked na (c .t))) _ _
-                    (record { capacity = refl; first = refl; held = refl; kept = refl; oldest = refl; cursor = refl; sent = refl; acknowledged = refl; pending = refl })
-                    (pending-stands f store (Step.nacked na (c .t)) asked asked-stands);
+                    restand f store (again (Step.nacked na (c .t))) _ _ refl (pending-stands f store (Step.nacked na (c .t)) asked asked-stands);
                 kept = placed-kept wait _ still refl refl refl refl refl refl (omega arith);
               })
           go (no u) =
@@ -214,9 +206,7 @@ module _ (f g : Stream) (store : List ℕ) (e : End) (d : Chain) (q : KeptEnd) (
                 e′ = record { s = Step.nacked na (c .t); r = Step.placed wait p n bt (e .r) };
                 does = ahead-wait m h (c .acks) more;
                 stands =
-                    restand f store (Step.nacked na (c .t)) asked _
-                    (record { capacity = refl; first = refl; held = refl; kept = refl; oldest = refl; cursor = refl; sent = refl; acknowledged = refl; pending = refl })
-                    asked-stands;
+                    restand f store (Step.nacked na (c .t)) asked _ refl asked-stands;
                 kept = placed-kept wait _ still refl refl refl refl refl refl (omega (arith, k .discards, discards-is));
               })
 

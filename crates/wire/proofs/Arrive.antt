@@ -39,40 +39,10 @@ use Rattle.link.proofs.Receive.{Given}
 use Rattle.wire.specs.System.{arrived-by, handed-by}
 use Rattle.wire.proofs.Pieces.{joined, joined-snoc, put-front, put-size}
 use Rattle.wire.proofs.Wrap.{wrap, most, after-wrap, difference-up}
-use Rattle.wire.proofs.Stands.{Stands, Formed}
+use Rattle.wire.proofs.Stands.{restand, Stands, Formed}
 use Rattle.wire.proofs.Credit.{Same, Credited, credits, pending-stands}
 use Rattle.wire.proofs.Says.{patience, Flight, flit, SaysControl, SaysIdle, ReadsPart, units, units-append, Kept}
 use Rattle.wire.proofs.Looks
-
--- ---- the sender's half, where only the receiver's half moves
-pub record Untouched (p p′ : KeptEnd) : Type 0 where
-  pub capacity : p′ .capacity .0 ≡ p .capacity .0
-  pub first : p′ .first ≡ p .first
-  pub held : p′ .held .0 ≡ p .held .0
-  pub kept : p′ .kept .0 ≡ p .kept .0
-  pub oldest : p′ .oldest .0 ≡ p .oldest .0
-  pub cursor : p′ .cursor .0 ≡ p .cursor .0
-  pub sent : p′ .sent .0 ≡ p .sent .0
-  pub acknowledged : p′ .acknowledged .0 ≡ p .acknowledged .0
-  pub pending : p′ .pending ≡ p .pending
-
-pub restand : (f : Stream) (store : List ℕ) (s : Sender) (p p′ : KeptEnd) → Untouched p p′ → Stands f store s p → Stands f store s p′
-restand f store s p p′ z h =
-    record {
-      least = rw (z .capacity) (h .least);
-      size = h .size ∙ ap (λ (c : ℕ). c * 64) (sym (z .capacity));
-      most = rw (z .capacity) (h .most);
-      room = rw (z .held, z .capacity) (h .room);
-      base = z .oldest ∙ h .base;
-      acked = z .acknowledged ∙ h .acked;
-      cursor = z .cursor ∙ h .cursor;
-      sent = z .sent ∙ h .sent;
-      held = rw (z .held) (h .held);
-      kept = z .kept ∙ h .kept;
-      pending = z .pending ∙ h .pending;
-      first = rw (z .first, z .capacity) (h .first);
-      ring = λ i j a b c. ap₂ (λ (n m : ℕ). flit-at store (place n m (num f i + j - num f (s .oldest)))) (z .capacity) (z .first) ∙ h .ring i j a b c;
-    }
 
 -- ---- what a receive comes to
 
@@ -169,9 +139,7 @@ module _ (f g : Stream) (store : List ℕ) (e : End) (d : Chain) (q : KeptEnd) (
                 e′ = record { s = e .s; r = Step.holding v (e .r) };
                 does = holds-step m (b, l);
                 stands =
-                    restand f store (e .s) q _
-                    (record { capacity = refl; first = refl; held = refl; kept = refl; oldest = refl; cursor = refl; sent = refl; acknowledged = refl; pending = refl })
-                    st;
+                    restand f store (e .s) q _ refl st;
                 kept =
                     record {
                       mode = k .mode;
@@ -207,9 +175,7 @@ module _ (f g : Stream) (store : List ℕ) (e : End) (d : Chain) (q : KeptEnd) (
                 e′ = record { s = again (e .s); r = Step.waiting (e .r) };
                 does = damaged-step m;
                 stands =
-                    restand f store (again (e .s)) _ _
-                    (record { capacity = refl; first = refl; held = refl; kept = refl; oldest = refl; cursor = refl; sent = refl; acknowledged = refl; pending = refl })
-                    (pending-stands f store (e .s) q st);
+                    restand f store (again (e .s)) _ _ refl (pending-stands f store (e .s) q st);
                 kept =
                     record {
                       mode = refl;
@@ -242,9 +208,7 @@ module _ (f g : Stream) (store : List ℕ) (e : End) (d : Chain) (q : KeptEnd) (
               e′ = record { s = again (e .s); r = e .r };
               does = discards m enough;
               stands =
-                  restand f store (again (e .s)) _ _
-                  (record { capacity = refl; first = refl; held = refl; kept = refl; oldest = refl; cursor = refl; sent = refl; acknowledged = refl; pending = refl })
-                  (pending-stands f store (e .s) q st);
+                  restand f store (again (e .s)) _ _ refl (pending-stands f store (e .s) q st);
               kept =
                   record {
                     mode = k .mode;
@@ -267,9 +231,7 @@ module _ (f g : Stream) (store : List ℕ) (e : End) (d : Chain) (q : KeptEnd) (
               e′ = record { s = e .s; r = e .r };
               does = discards m more;
               stands =
-                  restand f store (e .s) q _
-                  (record { capacity = refl; first = refl; held = refl; kept = refl; oldest = refl; cursor = refl; sent = refl; acknowledged = refl; pending = refl })
-                  st;
+                  restand f store (e .s) q _ refl st;
               kept =
                   record {
                     mode = k .mode;
@@ -316,9 +278,7 @@ module _ (f g : Stream) (store : List ℕ) (e : End) (d : Chain) (q : KeptEnd) (
                 e′ = record { s = c .t; r = Step.idled b (e .r) };
                 does = idling m z o (c .acks);
                 stands =
-                    restand f store (c .t) (acknowledged q store (x .acks .0)) _
-                    (record { capacity = refl; first = refl; held = refl; kept = refl; oldest = refl; cursor = refl; sent = refl; acknowledged = refl; pending = refl })
-                    (c .stands);
+                    restand f store (c .t) (acknowledged q store (x .acks .0)) _ refl (c .stands);
                 kept =
                     record {
                       mode = sm .mode ∙ k .mode;
@@ -435,9 +395,7 @@ module _ (f g : Stream) (store : List ℕ) (e : End) (d : Chain) (q : KeptEnd) (
                     e′ = record { s = c .t; r = Step.delivered b n bt (e .r) };
                     does = delivers m (bit, len) p (c .acks);
                     stands =
-                        restand f store (c .t) (acknowledged q store (x .acks .0)) _
-                        (record { capacity = refl; first = refl; held = refl; kept = refl; oldest = refl; cursor = refl; sent = refl; acknowledged = refl; pending = refl })
-                        (c .stands);
+                        restand f store (c .t) (acknowledged q store (x .acks .0)) _ refl (c .stands);
                     kept =
                         record {
                           mode = sm .mode ∙ k .mode;
@@ -476,9 +434,7 @@ module _ (f g : Stream) (store : List ℕ) (e : End) (d : Chain) (q : KeptEnd) (
                     e′ = record { s = c .t; r = Step.duplicate n bt (e .r) };
                     does = repeats m (bit, len) p (c .acks);
                     stands =
-                        restand f store (c .t) (acknowledged q store (x .acks .0)) _
-                        (record { capacity = refl; first = refl; held = refl; kept = refl; oldest = refl; cursor = refl; sent = refl; acknowledged = refl; pending = refl })
-                        (c .stands);
+                        restand f store (c .t) (acknowledged q store (x .acks .0)) _ refl (c .stands);
                     kept =
                         record {
                           mode = sm .mode ∙ k .mode;

@@ -35,8 +35,8 @@ use Rattle.link.proofs.Inv.{Local, Tail}
 use Rattle.wire.specs.Damage.{Arrives, one, units-of}
 use Rattle.wire.specs.System.{Passage, passing, ArriveAll}
 use Rattle.wire.proofs.Pieces.{joined, joined-snoc}
-use Rattle.wire.proofs.Wrap.{wrap, most, after-wrap}
-use Rattle.wire.proofs.Stands.{Stands, Taken, Formed, owed-le, at-cursor, at-sent, walk-at, body-at}
+use Rattle.wire.proofs.Wrap.{meaning, wrap, most, after-wrap}
+use Rattle.wire.proofs.Stands.{restand, Stands, Taken, Formed, owed-le, at-cursor, at-sent, walk-at, body-at}
 use Rattle.wire.proofs.Says.{Flight, ReadsAll, mode-of, Kept}
 use Rattle.wire.proofs.Makes.{spread, flights, flits, Sized, pieces, length-pieces, damage-size, right-same, unit-reads, made-size, made-bytes, made-right, made-says, made-parts, made-alone, made-no-replay, made-unit, alone-reads, idle-comes, replay-of, replay-comes}
 
@@ -165,7 +165,7 @@ module _ (Ok : Bool → Type 0) (f g : Stream) (store hold : List ℕ) (handed :
           information = information;
           previous = record { 0 = n };
           start = record { 0 = h .cursor i };
-          last = record { 0 = Rattle.numbers.specs.Numbers.acknowledge-number Rattle.numbers.specs.Numbers.last-received width (k .wanted i) };
+          last = record { 0 = Rattle.numbers.specs.Numbers.acknowledge-number meaning width (k .wanted i) };
           errors = errors;
           stalled = some-test n i;
           nack = (ap is-wait (k .mode) ∙ wait-test (e .r .mode)) i;
@@ -252,22 +252,7 @@ module _ (Ok : Bool → Type 0) (f g : Stream) (store hold : List ℕ) (handed :
           sized =
               let a′ = size-of v 0 (damage-size (idle-here a (some n)) v (ar .0 .damage) ∙ r .size) in
               (a′ .0, a′ .1, tt);
-          stands =
-              record {
-                least = h .least;
-                size = h .size;
-                most = h .most;
-                room = h .room;
-                base = h .base;
-                acked = h .acked;
-                cursor = h .cursor;
-                sent = h .sent;
-                held = h .held;
-                kept = h .kept;
-                pending = h .pending;
-                first = h .first;
-                ring = h .ring;
-              };
+          stands = restand f store (e .s) q _ refl h;
           kept = told-kept a _ refl refl refl refl refl refl (ap (λ (x : ℕ). x - a) (k .untold)) refl;
         }
     by-idles p (v ∷ w ∷ us) a e31 ar o = absurd (ar .1)

@@ -22,6 +22,7 @@ use Rattle.link.proofs.Chain.{Chain, Rest}
 use Rattle.link.proofs.Inv.{Runs, At, Head}
 use Rattle.link.proofs.Receive.{Given}
 use Rattle.wire.specs.Damage.{reads-replay}
+use Rattle.wire.proofs.Tests.{and-false-r}
 use Rattle.wire.proofs.Pieces.{joined}
 use Rattle.wire.proofs.Wrap.{most}
 use Rattle.wire.proofs.Stands.{Stands, Formed}
@@ -126,10 +127,6 @@ module _ (f g : Stream) (store : List ℕ) (e : End) (d : Chain) (q : KeptEnd) (
     not-right : (x : List ℕ) → right x ≡ false → reads-replay x ≡ false
     unfolding reads-replay
     not-right x h = and-false-l (right x) (eqb (fields-of x .run .0) replay-run) h
-
-    and-false-r : (b : Bool) → (b && false) ≡ false
-    and-false-r true = refl
-    and-false-r false = refl
 
     not-replay : (x : List ℕ) → fields-of x .run .0 ≡ idle-run → reads-replay x ≡ false
     unfolding reads-replay

@@ -1,3 +1,4 @@
+pub mod Tests
 pub mod Pieces
 pub mod Wrap
 pub mod Places

@@ -14,10 +14,7 @@ use Rattle.ends.specs.declared.state.End.{End}
 use Rattle.ends.proofs.Tests.{and-true, and-false-l, pick-true, pick-false}
 use Rattle.answers.specs.Answers.{holds, closes, length-wrong, stall-wrong, straddles, damaged, skips, behind}
 use Rattle.link.specs.Stream.{some}
-
-and-false-r : (b : Bool) → (b && false) ≡ false
-and-false-r true = refl
-and-false-r false = refl
+use Rattle.wire.proofs.Tests.{and-false-r}
 
 -- every test of several is no
 none-of-two : (a b : Bool) → a ≡ false → b ≡ false → (a || b) ≡ false

@@ -11,7 +11,7 @@ use lib.Dec.{ltb, eqb}
 use lib.Pow.{pow-pos}
 use lib.ListN.{length, take, drop, length-append, length-drop, take-append-drop}
 use lib.Seq.{take-all, take-at, drop-at, take-take, take-add, drop-drop}
-use Rattle.numbers.specs.Numbers.{width, last-received, acknowledge-number}
+use Rattle.numbers.specs.Numbers.{width, acknowledge-number}
 use Rattle.numbers.proofs.Laws.{difference-lt}
 use Rattle.crc.specs.Unit.{right, Bytes}
 use Rattle.crc.specs.Seal.{sealed}
@@ -31,8 +31,9 @@ use Rattle.link.proofs.Chain.{Chain, after}
 use Rattle.wire.specs.Damage.{window-bits, Damage, unaltered, odd-bits, near-bits, reads-replay, sent-replay, Arrives}
 use Rattle.wire.specs.System.{Passage}
 use Rattle.wire.specs.Theorem.{is-unit}
+use Rattle.wire.proofs.Tests.{and-false-r}
 use Rattle.wire.proofs.Pieces.{Flits, joined, cut, length-joined, joined-snoc, flit-size, flit-alone}
-use Rattle.wire.proofs.Wrap.{wrap}
+use Rattle.wire.proofs.Wrap.{meaning, wrap}
 use Rattle.wire.proofs.Stands.{Taken, run-le}
 use Rattle.wire.proofs.Says.{Flight, ends-unit, SaysControl, SaysIdle, SaysReplay, ReadsAll}
 
@@ -211,10 +212,6 @@ module _ (u : Block) (h : Taken u) (acks : ℕ) (st : Bool) (le : acks ≤ 31) w
   unfolding sent-replay
   made-no-replay = go (length (u .parts)) refl
     where
-      and-false-r : (b : Bool) → (b && false) ≡ false
-      and-false-r true = refl
-      and-false-r false = refl
-
       go : (n : ℕ) → length (u .parts) ≡ n → (eqb (length made) 64 && eqb (fields-of made .run .0) replay-run) ≡ false
       go zero z =
           let a = made-alone z in
@@ -226,10 +223,6 @@ module _ (u : Block) (h : Taken u) (acks : ℕ) (st : Bool) (le : acks ≤ 31) w
   unfolding is-unit
   made-unit = go (length (u .parts)) refl
     where
-      and-false-r : (b : Bool) → (b && false) ≡ false
-      and-false-r true = refl
-      and-false-r false = refl
-
       go : (n : ℕ) → length (u .parts) ≡ n → not (eqb (length made) 64 && ltb 8 (fields-of made .run .0)) ≡ true
       go zero z =
           ap not (ap (λ (t : Bool). eqb (length made) 64 && t) (le-ltb 8 (fields-of made .run .0) (made-alone z)) ∙ and-false-r (eqb (length made) 64))
@@ -243,11 +236,7 @@ unfolding ends-unit is-unit
 dl-ends y l r =
     ap (λ (t : Bool). eqb (suc (y .part) * 64) (length (y .arrives)) && not t)
     (and-true (eqb (length (y .sent)) 64) (ltb 8 (fields-of (y .sent) .run .0)) (eq-eqb (length (y .sent)) 64 l) (lt-ltb 8 (fields-of (y .sent) .run .0) r))
-    ∙ and-none (eqb (suc (y .part) * 64) (length (y .arrives)))
-  where
-    and-none : (b : Bool) → (b && false) ≡ false
-    and-none true = refl
-    and-none false = refl
+    ∙ and-false-r (eqb (suc (y .part) * 64) (length (y .arrives)))
 
 pub alone-reads : (p : Passage) → length (p .arrives) ≡ 64 → spread p 0 (length (p .arrives) / 64) ≡ spread p 0 1
 alone-reads p h = let e : length (p .arrives) / 64 ≡ 1 = omega arith in ap (spread p 0) e
@@ -277,7 +266,7 @@ replay-of f p n errors information st t na =
       information = information;
       previous = record { 0 = n };
       start = record { 0 = wrap (num f p) };
-      last = record { 0 = acknowledge-number last-received width (wrap t) };
+      last = record { 0 = acknowledge-number meaning width (wrap t) };
       errors = errors;
       stalled = st;
       nack = na;

@@ -6,7 +6,7 @@ use mathlib.Core.List.{List, [], _∷_, _++_}
 use Prim.Native.Nat.{ℕ, suc, _*_, _≤_, _<_}
 use lib.Dec.{eqb}
 use lib.ListN.{length, take}
-use Rattle.numbers.specs.Numbers.{width, last-received, acknowledge-number}
+use Rattle.numbers.specs.Numbers.{width, acknowledge-number}
 use Rattle.crc.specs.Unit.{right}
 use Rattle.flits.specs.Fields.{fields-of, replay as replay-run, idle as idle-run}
 use Rattle.flits.specs.Flits.{bare-control}
@@ -20,7 +20,7 @@ use Rattle.link.proofs.Chain.{Chain, after, final}
 use Rattle.wire.specs.Damage.{reads-replay}
 use Rattle.wire.specs.Theorem.{is-unit}
 use Rattle.wire.proofs.Pieces.{joined}
-use Rattle.wire.proofs.Wrap.{wrap}
+use Rattle.wire.proofs.Wrap.{meaning, wrap}
 
 -- ---- a flit on the wire: flit number `part` of a unit that was sent and arrives
 pub record Flight : Type 0 where
@@ -58,7 +58,7 @@ pub record SaysReplay (g : Stream) (na : Bool) (p n : ℕ) (st : Bool) (t : ℕ)
   pub owes : fields-of x .previous .0 ≡ n
   pub le : n ≤ 8
   pub start : fields-of x .start .0 ≡ wrap (num g p)
-  pub last : fields-of x .last .0 ≡ acknowledge-number last-received width (wrap t)
+  pub last : fields-of x .last .0 ≡ acknowledge-number meaning width (wrap t)
 
 -- ok: whether its unit is right; got: the data flits of its unit that come before it
 pub record ReadsPart (v : List ℕ) (y : Flight) : Type 0 where

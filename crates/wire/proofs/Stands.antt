@@ -2,7 +2,7 @@
 -- Then what a walk over the held flits meets: on the border of each unit the data flits of that unit, and inside a unit no border. So
 -- the last border among the oldest flits is where the unit begins in which they end. Assumes nothing.
 use mathlib.Core.Path.{_≡_, refl, ap, ap₂, sym, subst, _∙_}
-use mathlib.Core.Bool.{true, false}
+use mathlib.Core.Bool.{Bool, true, false}
 use mathlib.Core.List.{List, [], _∷_, _++_}
 use Prim.Native.Nat.{ℕ, zero, suc, _+_, _-_, _*_, _≤_, _<_}
 use native.Mathlib.Omega.{arith}
@@ -15,7 +15,7 @@ use Rattle.crc.specs.Unit.{Bytes}
 use Rattle.flits.specs.Bytes.{read}
 use Rattle.flits.specs.Fields.{content, run-length, acceptable, fields-of}
 use Rattle.flits.proofs.RoundTrip.{acceptable-is}
-use Rattle.ends.specs.Ring.{stored, begun, walk, walked}
+use Rattle.ends.specs.Ring.{flit-at, place, stored, begun, walk, walked}
 use Rattle.ends.specs.Refusals.{cursor-at, sent-at, acknowledged-at}
 use Rattle.ends.specs.declared.state.End.{End}
 use Rattle.ends.specs.declared.walk.Walk.{Walk}
@@ -69,6 +69,53 @@ pub record Stands (f : Stream) (store : List ℕ) (s : Sender) (q : End) : Type 
   pub first : q .first < q .capacity .0
   pub ring : (i j : ℕ) → s .oldest ≤ i → i < s .accepted → j ≤ owed f i
       → stored q store (num f i + j - num f (s .oldest)) ≡ flitOf (f i) j
+
+-- what of a state it goes by: where only the rest moves, it stands for the same
+pub record Sending : Type 0 where
+  pub capacity : ℕ
+  pub first : ℕ
+  pub held : ℕ
+  pub kept : ℕ
+  pub oldest : ℕ
+  pub cursor : ℕ
+  pub sent : ℕ
+  pub acknowledged : ℕ
+  pub pending : Bool
+
+abbrev pub sending : End → Sending
+sending q =
+    record {
+      capacity = q .capacity .0;
+      first = q .first;
+      held = q .held .0;
+      kept = q .kept .0;
+      oldest = q .oldest .0;
+      cursor = q .cursor .0;
+      sent = q .sent .0;
+      acknowledged = q .acknowledged .0;
+      pending = q .pending;
+    }
+
+pub restand : (f : Stream) (store : List ℕ) (s : Sender) (p p′ : End) → sending p′ ≡ sending p → Stands f store s p → Stands f store s p′
+restand f store s p p′ z h =
+    let capacity : p′ .capacity .0 ≡ p .capacity .0 = ap (λ (v : Sending). v .capacity) z in
+    let held : p′ .held .0 ≡ p .held .0 = ap (λ (v : Sending). v .held) z in
+    let first : p′ .first ≡ p .first = ap (λ (v : Sending). v .first) z in
+    record {
+      least = rw capacity (h .least);
+      size = h .size ∙ ap (λ (c : ℕ). c * 64) (sym capacity);
+      most = rw capacity (h .most);
+      room = rw (held, capacity) (h .room);
+      base = ap (λ (v : Sending). v .oldest) z ∙ h .base;
+      acked = ap (λ (v : Sending). v .acknowledged) z ∙ h .acked;
+      cursor = ap (λ (v : Sending). v .cursor) z ∙ h .cursor;
+      sent = ap (λ (v : Sending). v .sent) z ∙ h .sent;
+      held = rw held (h .held);
+      kept = ap (λ (v : Sending). v .kept) z ∙ h .kept;
+      pending = ap (λ (v : Sending). v .pending) z ∙ h .pending;
+      first = rw (first, capacity) (h .first);
+      ring = λ i j a b c. ap₂ (λ (n m : ℕ). flit-at store (place n m (num f i + j - num f (s .oldest)))) capacity first ∙ h .ring i j a b c;
+    }
 
 -- on the border before a unit of n data flits
 pub record AtBorder (w : Walk) (n : ℕ) : Type 0 where

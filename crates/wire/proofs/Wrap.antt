@@ -6,13 +6,17 @@ use Prim.Native.Nat.{ℕ, _+_, _-_, _%_, _^_, _≤_, _<_}
 use native.Mathlib.Nat.{mod-add-mod, mod-lt, add-comm, add-mod-right}
 use native.Mathlib.Omega.{arith}
 use lib.Pow.{pow-pos}
-use Rattle.numbers.specs.Numbers.{width, after, difference}
+use Rattle.numbers.specs.Numbers.{width, after, difference, Meaning, last-received}
 use Rattle.numbers.proofs.Laws.{difference-is}
 use Rattle.answers.specs.Answers.{half}
 
 -- a number as it is kept
 abbrev pub wrap : ℕ → ℕ
 wrap n = n % 2 ^ width
+
+-- what an acknowledge number names in this edition
+abbrev pub meaning : Meaning
+meaning = last-received
 
 -- the most flits that an end holds
 abbrev pub most : ℕ

@@ -18,7 +18,7 @@ use Rattle.answers.specs.declared.Answer.the-variants as answer
 use Rattle.answers.specs.Answers.{refusal-number}
 use Rattle.receive.specs.Receive.{receive, receive-hold}
 use Rattle.numbers.specs.declared.FlitCount.{FlitCount}
-use Rattle.wire.specs.System.{Passage, Wire, System, arriving, on-the-way, oldest-flit}
+use Rattle.wire.specs.System.{Passage, Wire, System, Lent, begin, arriving, on-the-way, oldest-flit, turned, Event, run, Fair}
 
 -- the first list is a first part of the second
 pub record FirstPart (xs ys : List (List ℕ)) : Type 0 where
@@ -77,3 +77,10 @@ pub record Demand (s : System) : Type 0 where
       → refusal-number (receive (s .a .end) (s .a .store) (s .a .hold) flit .answer) ≡ 0
   -- if nothing sent one way was altered, every unit sent that way is handed on by the time its last flit has arrived
   pub clean : Unaltered (s .ab .passages) → s .b .handed ≡ map as-handed (arrived-units (s .ab .taken) (s .ab .passages))
+
+-- the third test: two fresh ends of any capacities, any run that is as the buyer says, both ways
+abbrev pub ThirdTest : Type 0
+ThirdTest =
+    (store hold store′ hold′ : List ℕ) → Lent store hold → Lent store′ hold′ → (events : List Event)
+    → Fair events (begin store hold store′ hold′)
+    → Demand (run events (begin store hold store′ hold′)) × Demand (turned (run events (begin store hold store′ hold′)))

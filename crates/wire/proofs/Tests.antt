@@ -1,0 +1,7 @@
+-- A test that is no makes a conjunction no. Assumes nothing.
+use mathlib.Core.Path.{_≡_, refl}
+use mathlib.Core.Bool.{Bool, true, false, _&&_}
+
+pub and-false-r : (b : Bool) → (b && false) ≡ false
+and-false-r true = refl
+and-false-r false = refl
