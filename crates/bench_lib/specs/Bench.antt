@@ -1,0 +1,68 @@
+-- The lines that bench prints (01, "The bench ticket"): flits go into a fresh receiver one after the other, and each gives a line.
+-- Assumes nothing.
+use mathlib.Core.Bool.{Bool}
+use mathlib.Core.List.{List, [], _++_}
+use Prim.Native.Nat.{ℕ, zero, suc, _+_, _/_}
+use lib.ListN.{length}
+use Rattle.text.specs.Text.{ascii, decimal}
+use Rattle.words.specs.Words.{answer-word, mode-word}
+use Rattle.ticket.specs.declared.Ticket.{Ticket}
+use Rattle.ticket.specs.Ticket.{Call, nothing, after, text}
+use Rattle.ends.specs.Choice.{pick}
+use Rattle.ends.specs.State.{start}
+use Rattle.ends.specs.Ring.{flit-at}
+use Rattle.ends.specs.declared.state.End.{End}
+use Rattle.answers.specs.Answers.{data-delivered}
+use Rattle.answers.specs.declared.Answer.{Answer}
+use Rattle.receive.specs.Receive.{receive, receive-hold}
+use Rattle.bench_lib.specs.declared.Bench.{Bench}
+
+-- flit counts from 0, data is the data flits that this answer delivered, wanted and mode are as it leaves them
+unfoldable pub answer-part : ℕ → Answer → List ℕ
+answer-part flit answer =
+    ascii "flit=" ++ decimal flit ++ ascii " answer=" ++ answer-word answer ++ (ascii " data=" ++ decimal (data-delivered answer))
+
+unfoldable pub state-part : End → List ℕ
+state-part e = ascii " wanted=" ++ decimal (e .wanted .0) ++ ascii " mode=" ++ mode-word (e .mode) ++ ascii "\n"
+
+unfoldable pub line : ℕ → Answer → End → List ℕ
+line flit answer e = answer-part flit answer ++ state-part e
+
+-- a fresh receiver over a store of so many bytes, a ticket of zeros, and no flit so far
+unfoldable pub begun : ℕ → Bench
+begun bytes = record { end = start bytes .end; flits = 0; ticket = nothing }
+
+-- what is kept while flits arrive, the hold buffer, and the lines so far
+pub record Session : Type 0 where
+  pub kept : Bench
+  pub hold : List ℕ
+  pub lines : List ℕ
+
+-- one flit
+unfoldable pub next : List ℕ → Session → List ℕ → Session
+next store s flit =
+    record {
+      kept =
+          record {
+            end = receive (s .kept .end) store (s .hold) flit .end;
+            flits = s .kept .flits + 1;
+            ticket = after (s .kept .ticket) (Call.receives (receive (s .kept .end) store (s .hold) flit .answer));
+          };
+      hold = receive-hold (s .kept .end) store (s .hold) flit;
+      lines =
+          s .lines
+          ++ line (s .kept .flits) (receive (s .kept .end) store (s .hold) flit .answer) (receive (s .kept .end) store (s .hold) flit .end);
+    }
+
+-- the first n flits of an input
+unfoldable pub flits : List ℕ → Session → List ℕ → ℕ → Session
+flits store s input zero = s
+flits store s input (suc n) = next store (flits store s input n) (flit-at input n)
+
+-- all whole flits of an input
+abbrev pub session : List ℕ → Bench → List ℕ → List ℕ → Session
+session store kept hold input = flits store (record { kept = kept; hold = hold; lines = [] }) input (length input / 64)
+
+-- rest is the bytes left over; with --ticket the ticket follows
+unfoldable pub last-lines : ℕ → Ticket → Bool → List ℕ
+last-lines rest ticket ticketed = ascii "rest=" ++ decimal rest ++ ascii "\n" ++ pick ticketed (text ticket) []

@@ -1,0 +1,42 @@
+-- Text as bytes: ASCII, decimal numbers, and a buffer with a text written into it. Assumes nothing.
+use mathlib.Core.Bool.{Bool, true, false}
+use mathlib.Core.List.{List, [], _∷_, _++_}
+use mathlib.Core.Path.{_≡_}
+use Prim.Native.Char.{code}
+use Prim.Native.String.{String, [] as no-more, _∷_ as _then_}
+use Prim.Native.Nat.{ℕ, zero, suc, _+_, _/_, _%_}
+use lib.Dec.{ltb}
+use lib.ListN.{length}
+use lib.Seq.{sets}
+
+-- the bytes of a quoted text
+abbrev pub ascii : String → List ℕ
+ascii no-more = []
+ascii (c then s) = code c ∷ ascii s
+
+-- the digit of a number under 10
+abbrev pub digit : ℕ → ℕ
+digit n = 48 + n
+
+abbrev pub choose : Bool → List ℕ → List ℕ → List ℕ
+choose true a b = a
+choose false a b = b
+
+-- a number in decimal without leading zeros, where it has at most so many digits
+unfoldable pub digits : ℕ → ℕ → List ℕ
+digits zero n = []
+digits (suc k) n = choose (ltb n 10) (digit n ∷ []) (digits k (n / 10) ++ (digit (n % 10) ∷ []))
+
+-- every number here is under 2 ^ 64, which has 20 digits
+abbrev pub decimal : ℕ → List ℕ
+decimal n = digits 20 n
+
+-- a buffer with the bytes of a text stored in turn, from place `at` on
+unfoldable pub written : List ℕ → ℕ → List ℕ → List ℕ
+written out at text = sets out at text
+
+-- a text is put into a buffer: the place after it, and the buffer with it, which is as long as before
+pub record Puts (out : List ℕ) (at : ℕ) (text : List ℕ) (next : ℕ) (after : List ℕ) : Type 0 where
+  pub place : next ≡ at + length text
+  pub bytes : after ≡ written out at text
+  pub size : length after ≡ length out

@@ -1,0 +1,89 @@
+-- The counts of a session (01, "The bench ticket"): what a call adds to each, and the ticket as text. Assumes nothing.
+use mathlib.Core.List.{List, [], _∷_, _++_}
+use Prim.Native.Nat.{ℕ, _+_, min}
+use Prim.Native.String.{String}
+use lib.Dec.{leb}
+use lib.ListN.{length}
+use Rattle.text.specs.Text.{ascii, decimal, written}
+use Rattle.ends.specs.Choice.{pick}
+use Rattle.ends.specs.declared.state.Verdict.{Verdict}
+use Rattle.ends.specs.declared.state.Verdict.the-variants as verdict
+use Rattle.answers.specs.declared.Answer.{Answer}
+use Rattle.answers.specs.declared.Answer.the-variants as answer
+use Rattle.ticket.specs.declared.Ticket.{Ticket}
+use Rattle.ticket.specs.declared.Output.{Output}
+use Rattle.ticket.specs.declared.Output.the-variants.{Written, Short}
+
+-- ---- what a call adds
+
+-- a call that counts: accept of a unit of so many flits, with what it returned, and receive, with its answer
+pub data Call : Type 0 where
+  accepts : Verdict → ℕ → Call
+  receives : Answer → Call
+
+-- TL flits accepted, TL flits delivered, answers damaged, units duplicate, times gone down
+abbrev pub counts : ℕ → ℕ → ℕ → ℕ → ℕ → Ticket
+counts a b c d e = record { accepted = a; delivered = b; damaged = c; duplicate = d; downs = e }
+
+abbrev pub nothing : Ticket
+nothing = counts 0 0 0 0 0
+
+-- a unit is its data flits and the control flit; a refused call adds nothing
+unfoldable pub adds : Call → Ticket
+adds (accepts verdict.Admitted flits) = counts flits 0 0 0 0
+adds (accepts (verdict.Refused r) flits) = nothing
+adds (receives (answer.Delivered n)) = counts 0 (n .0 + 1) 0 0 0
+adds (receives answer.Damaged) = counts 0 0 1 0 0
+adds (receives answer.Duplicate) = counts 0 0 0 1 0
+adds (receives (answer.Down cause)) = counts 0 0 0 0 1
+adds (receives (answer.Refused r)) = nothing
+adds (receives answer.Held) = nothing
+adds (receives answer.Skipped) = nothing
+adds (receives answer.Idle) = nothing
+adds (receives answer.Replayed) = nothing
+adds (receives answer.Ahead) = nothing
+adds (receives answer.Discarded) = nothing
+
+-- counts stop at 4,294,967,295
+abbrev pub up-to-most : ℕ → ℕ
+up-to-most n = min n 4294967295
+
+-- a function of two counts, of each of the five
+abbrev pub each : (ℕ → ℕ → ℕ) → Ticket → Ticket → Ticket
+each f t u =
+    counts (f (t .accepted) (u .accepted)) (f (t .delivered) (u .delivered)) (f (t .damaged) (u .damaged))
+    (f (t .duplicate) (u .duplicate))
+    (f (t .downs) (u .downs))
+
+-- the ticket after a call
+unfoldable pub after : Ticket → Call → Ticket
+after t c = each (λ x n. up-to-most (x + n)) t (adds c)
+
+-- the ticket after a list of calls
+unfoldable pub after-all : Ticket → List Call → Ticket
+after-all t [] = t
+after-all t (c ∷ calls) = after-all (after t c) calls
+
+-- one of the counts, over a list of calls
+unfoldable pub total : (Ticket → ℕ) → List Call → ℕ
+total count [] = 0
+total count (c ∷ calls) = count (adds c) + total count calls
+
+-- ---- a ticket as text
+
+-- key=value, decimal without leading zeros, a line feed after each
+abbrev pub line : String → ℕ → List ℕ
+line key n = ascii key ++ decimal n ++ ascii "\n"
+
+unfoldable pub text : Ticket → List ℕ
+text t =
+    line "accepted=" (t .accepted) ++ line "delivered=" (t .delivered) ++ line "damaged=" (t .damaged)
+    ++ line "duplicate=" (t .duplicate)
+    ++ line "downs=" (t .downs)
+
+-- the text goes to the start of a buffer; nothing is written where that is shorter than the text
+unfoldable pub answer-for : Ticket → ℕ → Output
+answer-for t bytes = pick (leb (length (text t)) bytes) (Written (length (text t))) Short
+
+unfoldable pub output : Ticket → List ℕ → List ℕ
+output t out = pick (leb (length (text t)) (length out)) (written out 0 (text t)) out

@@ -1,0 +1,132 @@
+// The counts of a session (01, "The bench ticket"): functions that count by value, and the ticket as text.
+use answers::Answer;
+use ends::state::Verdict;
+use numbers::FlitCount;
+ghost use mathlib.Core.Path.{_≡_};
+ghost use mathlib.Core.List.{_++_};
+ghost use Prim.Native.Nat.{_+_, _≤_};
+ghost use lib.ListN.{length};
+ghost use Rattle.text.specs.Text.{ascii, decimal, Puts};
+ghost use Rattle.ticket.specs.Ticket.{Call, nothing, up-to-most, after, text as text-of, answer-for, output};
+
+// TL flits accepted, TL flits delivered, answers damaged, units duplicate, times gone down.
+pub struct Ticket {
+    pub accepted: u32,
+    pub delivered: u32,
+    pub damaged: u32,
+    pub duplicate: u32,
+    pub downs: u32,
+}
+
+// The bytes of a ticket's text in a buffer, or none where the buffer is shorter than it.
+pub enum Output {
+    Written(usize),
+    Short,
+}
+
+// The longest text of a ticket has fewer bytes.
+pub const ROOM: usize = 160;
+
+// A ticket of zeros.
+pub fn fresh() -> Ticket
+    ensures { λ r. ⌜ r ≡ nothing ⌝ }
+{
+    Ticket {
+        accepted: 0,
+        delivered: 0,
+        damaged: 0,
+        duplicate: 0,
+        downs: 0,
+    }
+}
+
+// The ticket after accept of a unit of so many flits.
+pub fn after_accept(t: Ticket, verdict: Verdict, flits: FlitCount) -> Ticket
+    ensures { λ r. ⌜ r ≡ after t (Call.accepts verdict (flits .0)) ⌝ }
+{
+    let mut next = t;
+    match verdict {
+        Verdict::Admitted => {
+            next.accepted = more(t.accepted, flits.0);
+        }
+        Verdict::Refused(_) => {}
+    }
+    next
+}
+
+// The ticket after receive.
+pub fn after_receive(t: Ticket, answer: Answer) -> Ticket
+    ensures { λ r. ⌜ r ≡ after t (Call.receives answer) ⌝ }
+{
+    let mut next = t;
+    match answer {
+        Answer::Delivered(data) => {
+            next.delivered = more(more(t.delivered, data.0), 1);
+        }
+        Answer::Damaged => {
+            next.damaged = more(t.damaged, 1);
+        }
+        Answer::Duplicate => {
+            next.duplicate = more(t.duplicate, 1);
+        }
+        Answer::Down(_) => {
+            next.downs = more(t.downs, 1);
+        }
+        Answer::Refused(_) => {}
+        Answer::Held => {}
+        Answer::Skipped => {}
+        Answer::Idle => {}
+        Answer::Replayed => {}
+        Answer::Ahead => {}
+        Answer::Discarded => {}
+    }
+    next
+}
+
+// Counts stop at the largest number.
+fn more(count: u32, n: usize) -> u32
+    ensures { λ r. ⌜ r ≡ up-to-most (count + n) ⌝ }
+{
+    let left = (u32::MAX - count) as usize;
+    if n <= left {
+        count + n as u32
+    } else {
+        u32::MAX
+    }
+}
+
+// Writes the ticket at the start of a buffer, or nothing where the buffer is shorter than its text.
+pub fn write_ticket(t: Ticket, out: &mut [u8]) -> Output
+    ensures { λ r. ⌜ r ≡ answer-for t (length (now (out .entry))) ⌝ }
+    ensures { λ _. ⌜ now (out .exit) ≡ output t (now (out .entry)) ⌝ }
+{
+    let mut whole = [0u8; 160];
+    let bytes = put_ticket(&mut whole, 0, t);
+    if bytes <= out.len() {
+        text::put(out, 0, &whole[..bytes]);
+        Output::Written(bytes)
+    } else {
+        Output::Short
+    }
+}
+
+// Writes the five lines from a place on, and answers the place after them.
+pub fn put_ticket(out: &mut [u8], at: usize, t: Ticket) -> usize
+    requires { ⌜ at + 160 ≤ length (now out) ⌝ }
+    ensures { λ r. ⌜ Puts (now (out .entry)) at (text-of t) r (now (out .exit)) ⌝ }
+{
+    let delivered = put_line(out, at, b"accepted=", t.accepted);
+    let damaged = put_line(out, delivered, b"delivered=", t.delivered);
+    let duplicate = put_line(out, damaged, b"damaged=", t.damaged);
+    let downs = put_line(out, duplicate, b"duplicate=", t.duplicate);
+    put_line(out, downs, b"downs=", t.downs)
+}
+
+// Writes a key and its number, and a line feed.
+fn put_line(out: &mut [u8], at: usize, key: &[u8], n: u32) -> usize
+    requires { ⌜ at + length (now key) + 21 ≤ length (now out) ⌝ }
+    ensures { λ r. ⌜ Puts (now (out .entry)) at (now (key .entry) ++ decimal n ++ ascii "\n") r (now (out .exit)) ⌝ }
+{
+    let end = text::put_field(out, at, key, n as u64);
+    text::put(out, end, b"\n")
+}

@@ -1,0 +1,29 @@
+-- How long the words are. Assumes nothing.
+use Prim.Native.Nat.{_≤_}
+use native.Mathlib.Omega.{arith}
+use lib.ListN.{length}
+use Rattle.ends.specs.declared.state.Mode.{Mode}
+use Rattle.ends.specs.declared.state.Mode.the-variants as mode
+use Rattle.answers.specs.declared.Answer.{Answer}
+use Rattle.answers.specs.declared.Answer.the-variants as answer
+use Rattle.words.specs.Words.{answer-word, mode-word}
+
+pub answer-short : (a : Answer) → length (answer-word a) ≤ 9
+unfolding answer-word
+answer-short (answer.Refused r) = omega arith
+answer-short answer.Held = omega arith
+answer-short (answer.Delivered n) = omega arith
+answer-short answer.Duplicate = omega arith
+answer-short answer.Idle = omega arith
+answer-short answer.Replayed = omega arith
+answer-short answer.Ahead = omega arith
+answer-short answer.Skipped = omega arith
+answer-short answer.Damaged = omega arith
+answer-short answer.Discarded = omega arith
+answer-short (answer.Down cause) = omega arith
+
+pub mode-short : (m : Mode) → length (mode-word m) ≤ 4
+unfolding mode-word
+mode-short mode.Run = omega arith
+mode-short mode.Wait = omega arith
+mode-short mode.Down = omega arith
