@@ -10,6 +10,7 @@ use Rattle.flits.specs.Bytes.{read}
 use Rattle.flits.specs.Fields.{content, run-length}
 use Rattle.flits.specs.Flits.{control-told, idle-flit, replay-flit}
 use Rattle.ends.specs.Choice.{pick}
+use Rattle.ends.specs.State.{number-of}
 use Rattle.ends.specs.Update.{with-cursor, with-sent, with-untold, with-pending}
 use Rattle.ends.specs.Ring.{flit-at, place, stored}
 use Rattle.ends.specs.Refusals.{cursor-at, sent-at, store-is, sound, run-at-cursor, is-down, is-wait}
@@ -17,6 +18,7 @@ use Rattle.ends.specs.declared.state.End.{End}
 use Rattle.ends.specs.declared.state.Refusal.the-variants as refusal
 use Rattle.ends.specs.declared.state.Verdict.{Verdict}
 use Rattle.ends.specs.declared.state.Verdict.the-variants.{Refused, Admitted}
+use Rattle.send.specs.declared.Answer.{Answer}
 use Rattle.send.specs.declared.Answer.the-variants as answer
 use Rattle.send.specs.declared.Sent.{Sent}
 
@@ -113,3 +115,12 @@ send e store output = sent-by (verdict e store output) e (run-at-cursor e store)
 unfoldable pub send-output : End → List ℕ → List ℕ → ℕ → ℕ → List ℕ
 send-output e store output errors information =
     output-by (verdict e store (length output)) (burst e store (run-at-cursor e store) errors information) output
+
+-- the answers in this paper's numbers: of a refusal, and of the flits written
+abbrev pub refusal-number : Answer → ℕ
+refusal-number (answer.Refused r) = number-of r
+refusal-number (answer.Flits n) = 0
+
+abbrev pub flits-written : Answer → ℕ
+flits-written (answer.Refused r) = 0
+flits-written (answer.Flits n) = n .0
