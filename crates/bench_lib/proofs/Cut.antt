@@ -9,7 +9,7 @@ use lib.ListN.{length, take, drop, length-append, length-drop}
 use lib.Seq.{take-append-le, drop-append-le, drop-append-add}
 use Rattle.ends.specs.Ring.{flit-at}
 use Rattle.bench_lib.specs.declared.Bench.{Bench}
-use Rattle.bench_lib.specs.Bench.{Session, line, next, flits, session}
+use Rattle.bench_lib.specs.Bench.{Session, next, flits, session}
 use Rattle.bench_lib.proofs.Laws.{from-here}
 
 -- a flit of the first part, and one of the second

@@ -15,6 +15,7 @@ use Rattle.ends.specs.declared.state.End.{End}
 use Rattle.answers.specs.Answers.{data-delivered}
 use Rattle.answers.specs.declared.Answer.{Answer}
 use Rattle.receive.specs.Receive.{receive, receive-hold}
+use Rattle.receive.specs.declared.Received.{Received}
 use Rattle.bench_lib.specs.declared.Bench.{Bench}
 
 -- flit counts from 0, data is the data flits that this answer delivered, wanted and mode are as it leaves them
@@ -38,21 +39,18 @@ pub record Session : Type 0 where
   pub hold : List ℕ
   pub lines : List ℕ
 
+-- what receive gives for a flit: the answer is counted and printed
+abbrev pub after-flit : Session → Received → List ℕ → Session
+after-flit s r hold =
+    record {
+      kept = record { end = r .end; flits = s .kept .flits + 1; ticket = after (s .kept .ticket) (Call.receives (r .answer)) };
+      hold = hold;
+      lines = s .lines ++ line (s .kept .flits) (r .answer) (r .end);
+    }
+
 -- one flit
 unfoldable pub next : List ℕ → Session → List ℕ → Session
-next store s flit =
-    record {
-      kept =
-          record {
-            end = receive (s .kept .end) store (s .hold) flit .end;
-            flits = s .kept .flits + 1;
-            ticket = after (s .kept .ticket) (Call.receives (receive (s .kept .end) store (s .hold) flit .answer));
-          };
-      hold = receive-hold (s .kept .end) store (s .hold) flit;
-      lines =
-          s .lines
-          ++ line (s .kept .flits) (receive (s .kept .end) store (s .hold) flit .answer) (receive (s .kept .end) store (s .hold) flit .end);
-    }
+next store s flit = after-flit s (receive (s .kept .end) store (s .hold) flit) (receive-hold (s .kept .end) store (s .hold) flit)
 
 -- the first n flits of an input
 unfoldable pub flits : List ℕ → Session → List ℕ → ℕ → Session

@@ -1,6 +1,6 @@
 -- Laws of texts in a buffer and of decimal numbers: a text written after a text is the two joined, writing keeps the length, and
 -- twenty digits are enough for any number under 2 ^ 64. Assumes nothing.
-use mathlib.Core.Bool.{Bool, true, false}
+use mathlib.Core.Bool.{Bool, true, false, cond}
 use mathlib.Core.List.{List, [], _∷_, _++_}
 use mathlib.Core.Path.{_≡_, refl, ap, sym, subst, _∙_}
 use Prim.Native.Nat.{ℕ, zero, suc, _+_, _/_, _%_, _^_, _≤_, _<_}
@@ -8,9 +8,9 @@ use native.Mathlib.Nat.{suc-add, add-suc, add-zero, div-lt-iff-lt-mul, pow-suc}
 use native.Mathlib.Omega.{arith}
 use lib.Dec.{ltb}
 use lib.ListN.{length, set, take, drop, getD, length-append, length-take, length-set}
-use lib.Seq.{sets, length-sets, sets-eq, take-suc, take-at}
+use lib.Seq.{sets, sets-eq, take-suc, take-at}
 use borrow.Author.Tests.{lt-ltb, le-ltb, ltb-true, ltb-false}
-use Rattle.text.specs.Text.{digit, digits, decimal, choose, written, Puts}
+use Rattle.text.specs.Text.{digit, digits, decimal, written, Puts}
 
 -- ---- a buffer
 
@@ -23,10 +23,6 @@ sets-append (x ∷ a) b l i =
 pub written-more : (out : List ℕ) (at : ℕ) (a b : List ℕ) → written (written out at a) (at + length a) b ≡ written out at (a ++ b)
 unfolding written
 written-more out at a b = sets-append a b out at
-
-pub length-written : (out : List ℕ) (at : ℕ) (text : List ℕ) → length (written out at text) ≡ length out
-unfolding written
-length-written out at text = length-sets out at text
 
 pub written-none : (out : List ℕ) (at : ℕ) → written out at [] ≡ out
 unfolding written
@@ -48,21 +44,21 @@ written-next out text at i h =
 
 -- ---- decimal numbers
 
-choose-true : (b : Bool) (x y : List ℕ) → b ≡ true → choose b x y ≡ x
-choose-true true x y h = refl
-choose-true false x y h = let z : false ≡ true = h in cc
+cond-true : (b : Bool) (x y : List ℕ) → b ≡ true → cond b x y ≡ x
+cond-true true x y h = refl
+cond-true false x y h = let z : false ≡ true = h in cc
 
-choose-false : (b : Bool) (x y : List ℕ) → b ≡ false → choose b x y ≡ y
-choose-false false x y h = refl
-choose-false true x y h = let z : true ≡ false = h in cc
+cond-false : (b : Bool) (x y : List ℕ) → b ≡ false → cond b x y ≡ y
+cond-false false x y h = refl
+cond-false true x y h = let z : true ≡ false = h in cc
 
 digits-small : (k n : ℕ) → n < 10 → digits (suc k) n ≡ digit n ∷ []
 unfolding digits
-digits-small k n h = choose-true (ltb n 10) _ _ (lt-ltb n 10 h)
+digits-small k n h = cond-true (ltb n 10) _ _ (lt-ltb n 10 h)
 
 digits-large : (k n : ℕ) → 10 ≤ n → digits (suc k) n ≡ digits k (n / 10) ++ (digit (n % 10) ∷ [])
 unfolding digits
-digits-large k n h = choose-false (ltb n 10) _ _ (le-ltb n 10 h)
+digits-large k n h = cond-false (ltb n 10) _ _ (le-ltb n 10 h)
 
 pub length-digits : (k n : ℕ) → length (digits k n) ≤ k
 unfolding digits
@@ -70,7 +66,7 @@ length-digits zero n = omega arith
 length-digits (suc k) n = shorter (ltb n 10) (length-digits k (n / 10))
   where
     shorter : (b : Bool) → length (digits k (n / 10)) ≤ k
-        → length (choose b (digit n ∷ []) (digits k (n / 10) ++ (digit (n % 10) ∷ []))) ≤ suc k
+        → length (cond b (digit n ∷ []) (digits k (n / 10) ++ (digit (n % 10) ∷ []))) ≤ suc k
     shorter true h = omega arith
     shorter false h = simp length-append (omega arith)
 

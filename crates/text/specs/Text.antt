@@ -1,5 +1,5 @@
 -- Text as bytes: ASCII, decimal numbers, and a buffer with a text written into it. Assumes nothing.
-use mathlib.Core.Bool.{Bool, true, false}
+use mathlib.Core.Bool.{cond}
 use mathlib.Core.List.{List, [], _∷_, _++_}
 use mathlib.Core.Path.{_≡_}
 use Prim.Native.Char.{code}
@@ -18,14 +18,10 @@ ascii (c then s) = code c ∷ ascii s
 abbrev pub digit : ℕ → ℕ
 digit n = 48 + n
 
-abbrev pub choose : Bool → List ℕ → List ℕ → List ℕ
-choose true a b = a
-choose false a b = b
-
 -- a number in decimal without leading zeros, where it has at most so many digits
 unfoldable pub digits : ℕ → ℕ → List ℕ
 digits zero n = []
-digits (suc k) n = choose (ltb n 10) (digit n ∷ []) (digits k (n / 10) ++ (digit (n % 10) ∷ []))
+digits (suc k) n = cond (ltb n 10) (digit n ∷ []) (digits k (n / 10) ++ (digit (n % 10) ∷ []))
 
 -- every number here is under 2 ^ 64, which has 20 digits
 abbrev pub decimal : ℕ → List ℕ

@@ -1,13 +1,13 @@
 -- Laws of the ticket: what a call leaves of each count, and where a line of its text ends. Assumes nothing.
 use mathlib.Core.List.{List, _++_}
-use mathlib.Core.Path.{_≡_, ap}
+use mathlib.Core.Path.{_≡_}
 use Prim.Native.Nat.{ℕ, _+_, _≤_, _<_, _^_}
 use native.Mathlib.Omega.{arith}
 use lib.ListN.{length, length-append}
 use Rattle.text.specs.Text.{ascii, decimal, Puts}
 use Rattle.text.proofs.Laws.{length-decimal}
 use Rattle.ticket.specs.declared.Ticket.{Ticket}
-use Rattle.ticket.specs.Ticket.{Call, counts, nothing, up-to-most, adds, after, text}
+use Rattle.ticket.specs.Ticket.{Call, counts, nothing, stopped, adds, after, text}
 
 -- ---- counts
 
@@ -16,9 +16,9 @@ counts-are a b c d e a' b' c' d' e' p q r s t = cc
 
 -- the counts after a call that adds u
 pub after-is : (t : Ticket) (c : Call) (u r : Ticket) → adds c ≡ u
-    → r .accepted ≡ up-to-most (t .accepted + u .accepted) → r .delivered ≡ up-to-most (t .delivered + u .delivered)
-    → r .damaged ≡ up-to-most (t .damaged + u .damaged) → r .duplicate ≡ up-to-most (t .duplicate + u .duplicate)
-    → r .downs ≡ up-to-most (t .downs + u .downs) → r ≡ after t c
+    → r .accepted ≡ stopped (t .accepted + u .accepted) → r .delivered ≡ stopped (t .delivered + u .delivered)
+    → r .damaged ≡ stopped (t .damaged + u .damaged) → r .duplicate ≡ stopped (t .duplicate + u .duplicate)
+    → r .downs ≡ stopped (t .downs + u .downs) → r ≡ after t c
 unfolding after
 after-is t c u r e p q v w x = rw e (counts-are _ _ _ _ _ _ _ _ _ _ p q v w x)
 

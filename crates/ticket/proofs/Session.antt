@@ -6,21 +6,21 @@ use mathlib.Core.Path.{_≡_, _∙_}
 use Prim.Native.Nat.{ℕ, _+_, _≤_}
 use native.Mathlib.Omega.{arith}
 use Rattle.ticket.specs.declared.Ticket.{Ticket}
-use Rattle.ticket.specs.Ticket.{Call, counts, nothing, up-to-most, adds, after, after-all, total}
+use Rattle.ticket.specs.Ticket.{Call, counts, nothing, stopped, adds, after, after-all, total}
 use Rattle.ticket.proofs.Laws.{counts-are}
 
 -- a count that has not passed where it stops
-stops-once : (x n rest : ℕ) → up-to-most (up-to-most (x + n) + rest) ≡ up-to-most (x + (n + rest))
+stops-once : (x n rest : ℕ) → stopped (stopped (x + n) + rest) ≡ stopped (x + (n + rest))
 stops-once x n rest = omega arith
 
 -- from any ticket whose counts have not passed where they stop
 session-from : (t : Ticket) (calls : List Call) → t .accepted ≤ 4294967295 → t .delivered ≤ 4294967295 → t .damaged ≤ 4294967295
     → t .duplicate ≤ 4294967295 → t .downs ≤ 4294967295
     → after-all t calls
-    ≡ counts (up-to-most (t .accepted + total (λ u. u .accepted) calls)) (up-to-most (t .delivered + total (λ u. u .delivered) calls))
-    (up-to-most (t .damaged + total (λ u. u .damaged) calls))
-    (up-to-most (t .duplicate + total (λ u. u .duplicate) calls))
-    (up-to-most (t .downs + total (λ u. u .downs) calls))
+    ≡ counts (stopped (t .accepted + total (λ u. u .accepted) calls)) (stopped (t .delivered + total (λ u. u .delivered) calls))
+    (stopped (t .damaged + total (λ u. u .damaged) calls))
+    (stopped (t .duplicate + total (λ u. u .duplicate) calls))
+    (stopped (t .downs + total (λ u. u .downs) calls))
 unfolding after-all total after
 session-from t [] a b c d e =
     counts-are _ _ _ _ _ _ _ _ _ _ (omega arith) (omega arith) (omega arith) (omega arith) (omega arith)
@@ -33,10 +33,10 @@ session-from t (x ∷ calls) a b c d e =
     (stops-once (t .downs) (adds x .downs) (total (λ u. u .downs) calls))
 
 pub session : (calls : List Call) → after-all nothing calls
-    ≡ counts (up-to-most (total (λ t. t .accepted) calls)) (up-to-most (total (λ t. t .delivered) calls))
-    (up-to-most (total (λ t. t .damaged) calls))
-    (up-to-most (total (λ t. t .duplicate) calls))
-    (up-to-most (total (λ t. t .downs) calls))
+    ≡ counts (stopped (total (λ t. t .accepted) calls)) (stopped (total (λ t. t .delivered) calls))
+    (stopped (total (λ t. t .damaged) calls))
+    (stopped (total (λ t. t .duplicate) calls))
+    (stopped (total (λ t. t .downs) calls))
 session calls =
     session-from nothing calls (omega arith) (omega arith) (omega arith) (omega arith) (omega arith)
     ∙ counts-are _ _ _ _ _ _ _ _ _ _ (omega arith) (omega arith) (omega arith) (omega arith) (omega arith)

@@ -45,19 +45,15 @@ adds (receives answer.Ahead) = nothing
 adds (receives answer.Discarded) = nothing
 
 -- counts stop at 4,294,967,295
-abbrev pub up-to-most : ℕ → ℕ
-up-to-most n = min n 4294967295
-
--- a function of two counts, of each of the five
-abbrev pub each : (ℕ → ℕ → ℕ) → Ticket → Ticket → Ticket
-each f t u =
-    counts (f (t .accepted) (u .accepted)) (f (t .delivered) (u .delivered)) (f (t .damaged) (u .damaged))
-    (f (t .duplicate) (u .duplicate))
-    (f (t .downs) (u .downs))
+abbrev pub stopped : ℕ → ℕ
+stopped n = min n 4294967295
 
 -- the ticket after a call
 unfoldable pub after : Ticket → Call → Ticket
-after t c = each (λ x n. up-to-most (x + n)) t (adds c)
+after t c =
+    counts (stopped (t .accepted + adds c .accepted)) (stopped (t .delivered + adds c .delivered)) (stopped (t .damaged + adds c .damaged))
+    (stopped (t .duplicate + adds c .duplicate))
+    (stopped (t .downs + adds c .downs))
 
 -- the ticket after a list of calls
 unfoldable pub after-all : Ticket → List Call → Ticket

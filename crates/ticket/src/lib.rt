@@ -7,7 +7,7 @@ ghost use mathlib.Core.List.{_++_};
 ghost use Prim.Native.Nat.{_+_, _≤_};
 ghost use lib.ListN.{length};
 ghost use Rattle.text.specs.Text.{ascii, decimal, Puts};
-ghost use Rattle.ticket.specs.Ticket.{Call, nothing, up-to-most, after, text as text-of, answer-for, output};
+ghost use Rattle.ticket.specs.Ticket.{Call, nothing, stopped, after, text as text-of, answer-for, output};
 
 // TL flits accepted, TL flits delivered, answers damaged, units duplicate, times gone down.
 pub struct Ticket {
@@ -85,7 +85,7 @@ pub fn after_receive(t: Ticket, answer: Answer) -> Ticket
 
 // Counts stop at the largest number.
 fn more(count: u32, n: usize) -> u32
-    ensures { λ r. ⌜ r ≡ up-to-most (count + n) ⌝ }
+    ensures { λ r. ⌜ r ≡ stopped (count + n) ⌝ }
 {
     let left = (u32::MAX - count) as usize;
     if n <= left {
