@@ -1,0 +1,57 @@
+-- `show::put_ring` meets its contract: four fields, one after the other. Assumes nothing.
+use Rattle.text.proofs.Laws.{puts-more}
+use Rattle.show.specs.Show.{ring-part}
+use borrow.Author.Needs.{needs}
+use Rattle.show.proofs.put_ring.Statement.{statement}
+use Rattle.show.proofs.put_ring.Tie as tie
+
+slice-aggregate-put-field : tie.Need-slice-aggregate-put-field
+slice-aggregate-put-field c = search needs
+
+put-field-requires : tie.Need-put-field-requires
+put-field-requires c κs = search needs
+
+slice-aggregate-put-field-2 : tie.Need-slice-aggregate-put-field-2
+slice-aggregate-put-field-2 c = search needs
+
+put-field-requires-2 : tie.Need-put-field-requires-2
+put-field-requires-2 c κs = search needs
+
+slice-aggregate-put-field-3 : tie.Need-slice-aggregate-put-field-3
+slice-aggregate-put-field-3 c = search needs
+
+put-field-requires-3 : tie.Need-put-field-requires-3
+put-field-requires-3 c κs = search needs
+
+slice-aggregate-put-field-4 : tie.Need-slice-aggregate-put-field-4
+slice-aggregate-put-field-4 c = search needs
+
+put-field-requires-4 : tie.Need-put-field-requires-4
+put-field-requires-4 c κs = search needs
+
+same-length : tie.Need-same-length
+same-length c = search needs
+
+returns : tie.Need-returns
+unfolding ring-part
+returns c =
+    let p1 = c .before .before .before .before .before .before .before .before .before .before .before .before .before .before .before .before .before .put-field .ensures .0 in
+    let p2 = c .before .before .before .before .before .before .before .before .before .before .before .before .put-field2 .ensures .0 in
+    let p3 = c .before .before .before .before .before .before .before .put-field3 .ensures .0 in
+    let p4 = c .before .before .put-field4 .ensures .0 in
+    puts-more (puts-more (puts-more p1 p2) p3) p4
+
+pub put-ring-spec : {M : Type 1} → statement M
+put-ring-spec =
+    tie.close
+    (tie.spec
+    slice-aggregate-put-field
+    put-field-requires
+    slice-aggregate-put-field-2
+    put-field-requires-2
+    slice-aggregate-put-field-3
+    put-field-requires-3
+    slice-aggregate-put-field-4
+    put-field-requires-4
+    same-length
+    returns)

@@ -1,0 +1,78 @@
+-- `show::put_state` meets its contract: six parts, one after the other. Assumes nothing.
+use native.Mathlib.Omega.{arith}
+use Rattle.text.proofs.Laws.{puts-more}
+use Rattle.show.specs.Show.{state-text}
+use Rattle.show.proofs.Laws.{ring-short, sending-short, receiving-short, mode-part-short, information-short}
+use borrow.Author.Needs.{needs}
+use Rattle.show.proofs.put_state.Statement.{statement}
+use Rattle.show.proofs.put_state.Tie as tie
+
+put-ring-requires : tie.Need-put-ring-requires
+put-ring-requires c κs = search needs
+
+put-sending-requires : tie.Need-put-sending-requires
+put-sending-requires c κs =
+    let e = c .before .before .before .before .before .before .before .before .before .args .e in
+    let p1 = c .before .before .before .put-ring .ensures in
+    omega (arith, c .before .before .before .before .before .before .before .before .before .pre, p1 .place, p1 .size, ring-short e)
+
+put-receiving-requires : tie.Need-put-receiving-requires
+put-receiving-requires c κs =
+    let e = c .before .before .before .before .before .before .before .before .before .before .before .before .before .args .e in
+    let p1 = c .before .before .before .before .before .before .before .put-ring .ensures in
+    let p2 = c .before .before .before .put-sending .ensures in
+    omega (arith, c .before .before .before .before .before .before .before .before .before .before .before .before .before .pre, p1 .place, p1 .size, ring-short e, p2 .place, p2 .size, sending-short e)
+
+put-mode-part-requires : tie.Need-put-mode-part-requires
+put-mode-part-requires c κs =
+    let e = c .before .before .before .before .before .before .before .before .before .before .before .before .before .before .before .before .before .args .e in
+    let p1 = c .before .before .before .before .before .before .before .before .before .before .before .put-ring .ensures in
+    let p2 = c .before .before .before .before .before .before .before .put-sending .ensures in
+    let p3 = c .before .before .before .put-receiving .ensures in
+    omega (arith, c .before .before .before .before .before .before .before .before .before .before .before .before .before .before .before .before .before .pre, p1 .place, p1 .size, ring-short e, p2 .place, p2 .size, sending-short e, p3 .place, p3 .size, receiving-short e)
+
+put-information-requires : tie.Need-put-information-requires
+put-information-requires c κs =
+    let e = c .before .before .before .before .before .before .before .before .before .before .before .before .before .before .before .before .before .before .before .before .before .before .args .e in
+    let p1 = c .before .before .before .before .before .before .before .before .before .before .before .before .before .before .before .before .put-ring .ensures in
+    let p2 = c .before .before .before .before .before .before .before .before .before .before .before .before .put-sending .ensures in
+    let p3 = c .before .before .before .before .before .before .before .before .put-receiving .ensures in
+    let p4 = c .before .before .before .before .put-mode-part .ensures in
+    omega (arith, c .before .before .before .before .before .before .before .before .before .before .before .before .before .before .before .before .before .before .before .before .before .before .pre, p1 .place, p1 .size, ring-short e, p2 .place, p2 .size, sending-short e, p3 .place, p3 .size, receiving-short e, p4 .place, p4 .size, mode-part-short e)
+
+put-sums-requires : tie.Need-put-sums-requires
+put-sums-requires c κs =
+    let e = c .before .before .before .before .before .before .before .before .before .before .before .before .before .before .before .before .before .before .before .before .before .before .before .before .before .before .args .e in
+    let p1 = c .before .before .before .before .before .before .before .before .before .before .before .before .before .before .before .before .before .before .before .before .put-ring .ensures in
+    let p2 = c .before .before .before .before .before .before .before .before .before .before .before .before .before .before .before .before .put-sending .ensures in
+    let p3 = c .before .before .before .before .before .before .before .before .before .before .before .before .put-receiving .ensures in
+    let p4 = c .before .before .before .before .before .before .before .before .put-mode-part .ensures in
+    let p5 = c .before .before .before .put-information .ensures in
+    omega (arith, c .before .before .before .before .before .before .before .before .before .before .before .before .before .before .before .before .before .before .before .before .before .before .before .before .before .before .pre, p1 .place, p1 .size, ring-short e, p2 .place, p2 .size, sending-short e, p3 .place, p3 .size, receiving-short e, p4 .place, p4 .size, mode-part-short e, p5 .place, p5 .size, information-short (e .information))
+
+same-length : tie.Need-same-length
+same-length c = search needs
+
+returns : tie.Need-returns
+unfolding state-text
+returns c =
+    let p1 = c .before .before .before .before .before .before .before .before .before .before .before .before .before .before .before .before .before .before .before .before .before .before .before .put-ring .ensures in
+    let p2 = c .before .before .before .before .before .before .before .before .before .before .before .before .before .before .before .before .before .before .before .put-sending .ensures in
+    let p3 = c .before .before .before .before .before .before .before .before .before .before .before .before .before .before .before .put-receiving .ensures in
+    let p4 = c .before .before .before .before .before .before .before .before .before .before .before .put-mode-part .ensures in
+    let p5 = c .before .before .before .before .before .before .put-information .ensures in
+    let p6 = c .before .before .put-sums .ensures in
+    puts-more (puts-more (puts-more (puts-more (puts-more p1 p2) p3) p4) p5) p6
+
+pub put-state-spec : {M : Type 1} → statement M
+put-state-spec =
+    tie.close
+    (tie.spec
+    put-ring-requires
+    put-sending-requires
+    put-receiving-requires
+    put-mode-part-requires
+    put-information-requires
+    put-sums-requires
+    same-length
+    returns)
