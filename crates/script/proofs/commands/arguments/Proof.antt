@@ -1,0 +1,78 @@
+-- `script::commands::arguments` meets its contract: it has one argument or more. Assumes nothing.
+use native.Mathlib.Nat.{sub-zero}
+use Rattle.script.proofs.Cuts.{to-end, tokens-more, tokens-one, last-one, last-tokens}
+use borrow.Author.Needs.{needs}
+use Rattle.script.proofs.commands.arguments.Statement.{statement}
+use Rattle.script.proofs.commands.arguments.Tie as tie
+
+first-token-requires : tie.Need-first-token-requires
+first-token-requires c κs = search needs
+
+add-from : tie.Need-add-from
+add-from c = search needs
+
+sub-more-arguments : tie.Need-sub-more-arguments
+sub-more-arguments c = search needs
+
+part-more-arguments-start : tie.Need-part-more-arguments-start
+part-more-arguments-start c = search needs
+
+part-more-arguments-end : tie.Need-part-more-arguments-end
+part-more-arguments-end c = search needs
+
+sub-more-arguments-2 : tie.Need-sub-more-arguments-2
+sub-more-arguments-2 c = search needs
+
+part-more-arguments-start-2 : tie.Need-part-more-arguments-start-2
+part-more-arguments-start-2 c = search needs
+
+part-more-arguments-end-2 : tie.Need-part-more-arguments-end-2
+part-more-arguments-end-2 c = search needs
+
+more-arguments-requires : tie.Need-more-arguments-requires
+more-arguments-requires c κs = search needs
+
+one-argument-requires : tie.Need-one-argument-requires
+one-argument-requires c κs = search needs
+
+same-length : tie.Need-same-length
+same-length c = search needs
+
+returns : tie.Need-returns
+returns c =
+    let a = c .before .before .before .before .before .before .before .before .before .before .before .args in
+    let r = a .rest .now in
+    let f = c .before .before .before .before .before .before .before .first-token in
+    let e = tokens-more r (f .result) (f .ensures .1) (c .before .before .before .before .before .before .if1 .taken) in
+    let m = c .before .before .more-arguments in
+    (rw e (simp (sub-zero, to-end) at (m .ensures .0)), rw (e, last-tokens) (simp (sub-zero, to-end) at (m .ensures .1)))
+
+same-length-2 : tie.Need-same-length-2
+same-length-2 c = search needs
+
+returns-2 : tie.Need-returns-2
+returns-2 c =
+    let a = c .before .before .before .before .before .before .before .before .before .args in
+    let r = a .rest .now in
+    let f = c .before .before .before .before .before .first-token in
+    let e = tokens-one r (f .result) (f .ensures .1) (c .before .before .before .before .if1 .left) in
+    (rw e (c .before .before .one-argument .ensures .0), rw (e, last-one) (c .before .before .one-argument .ensures .1))
+
+pub arguments-spec : {M : Type 1} → statement M
+arguments-spec =
+    tie.close
+    (tie.spec
+    first-token-requires
+    add-from
+    sub-more-arguments
+    part-more-arguments-start
+    part-more-arguments-end
+    sub-more-arguments-2
+    part-more-arguments-start-2
+    part-more-arguments-end-2
+    more-arguments-requires
+    one-argument-requires
+    same-length
+    returns
+    same-length-2
+    returns-2)

@@ -1,0 +1,20 @@
+-- `script::commands::start` meets its contract, by the test. Assumes nothing.
+use mathlib.Core.Path.{sym, _∙_}
+use Rattle.script.specs.Script.{start}
+use borrow.Author.Needs.{needs}
+use Rattle.script.proofs.commands.start.Statement.{statement}
+use Rattle.script.proofs.commands.start.Tie as tie
+
+number-requires : tie.Need-number-requires
+number-requires c κs = search needs
+
+returns : tie.Need-returns
+unfolding start
+returns c = simp (sym (c .before .number .ensures .0) ∙ c .if1 .taken, c .before .number .ensures .1 .0)
+
+returns-2 : tie.Need-returns-2
+unfolding start
+returns-2 c = simp (sym (c .before .number .ensures .0) ∙ c .if1 .left)
+
+pub start-spec : {M : Type 1} → statement M
+start-spec = tie.close (tie.spec number-requires returns returns-2)

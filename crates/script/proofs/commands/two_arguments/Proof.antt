@@ -1,0 +1,109 @@
+-- `script::commands::two_arguments` meets its contract, word by word. Assumes nothing.
+use mathlib.Core.Path.{sym, _∙_}
+use Rattle.script.specs.Script.{command-of}
+use Rattle.script.proofs.Figures.{over-none}
+use Rattle.script.proofs.Lines.{poke-none, lend-none, count-none, bad-none}
+use borrow.Author.Needs.{needs}
+use Rattle.script.proofs.commands.two_arguments.Statement.{statement}
+use Rattle.script.proofs.commands.two_arguments.Tie as tie
+
+slice-aggregate-is : tie.Need-slice-aggregate-is
+slice-aggregate-is c = search needs
+
+is-requires : tie.Need-is-requires
+is-requires c κs = search needs
+
+poke-requires : tie.Need-poke-requires
+poke-requires c κs = search needs
+
+returns : tie.Need-returns
+unfolding command-of
+returns c =
+    let t = sym (c .before .before .is .ensures) ∙ c .before .if1 .taken in
+    (simp t (c .poke .ensures), simp (t, poke-none, over-none))
+
+slice-aggregate-is-2 : tie.Need-slice-aggregate-is-2
+slice-aggregate-is-2 c = search needs
+
+is-requires-2 : tie.Need-is-requires-2
+is-requires-2 c κs = search needs
+
+fill-requires : tie.Need-fill-requires
+fill-requires c κs = search needs
+
+same-length : tie.Need-same-length
+same-length c = search needs
+
+returns-2 : tie.Need-returns-2
+unfolding command-of
+returns-2 c =
+    let s = sym (c .before .before .before .before .before .before .before .before .is .ensures) ∙ c .before .before .before .before .before .before .before .if1 .left in
+    let t = sym (c .before .before .before .before .before .is2 .ensures) ∙ c .before .before .before .before .if2 .taken in
+    (simp (s, t) (c .before .before .fill .ensures .0), simp (s, t) (c .before .before .fill .ensures .1))
+
+slice-aggregate-is-3 : tie.Need-slice-aggregate-is-3
+slice-aggregate-is-3 c = search needs
+
+is-requires-3 : tie.Need-is-requires-3
+is-requires-3 c κs = search needs
+
+lend-requires : tie.Need-lend-requires
+lend-requires c κs = search needs
+
+returns-3 : tie.Need-returns-3
+unfolding command-of
+returns-3 c =
+    let s = sym (c .before .before .before .before .before .before .before .before .is .ensures) ∙ c .before .before .before .before .before .before .before .if1 .left in
+    let t = sym (c .before .before .before .before .before .is2 .ensures) ∙ c .before .before .before .before .if2 .left in
+    let u = sym (c .before .before .is3 .ensures) ∙ c .before .if3 .taken in
+    (simp (s, t, u) (c .lend .ensures), simp (s, t, u, lend-none, over-none))
+
+slice-aggregate-is-4 : tie.Need-slice-aggregate-is-4
+slice-aggregate-is-4 c = search needs
+
+is-requires-4 : tie.Need-is-requires-4
+is-requires-4 c κs = search needs
+
+count-requires : tie.Need-count-requires
+count-requires c κs = search needs
+
+returns-4 : tie.Need-returns-4
+unfolding command-of
+returns-4 c =
+    let s = sym (c .before .before .before .before .before .before .before .before .before .before .before .is .ensures) ∙ c .before .before .before .before .before .before .before .before .before .before .if1 .left in
+    let t = sym (c .before .before .before .before .before .before .before .before .is2 .ensures) ∙ c .before .before .before .before .before .before .before .if2 .left in
+    let u = sym (c .before .before .before .before .before .is3 .ensures) ∙ c .before .before .before .before .if3 .left in
+    let v = sym (c .before .before .is4 .ensures) ∙ c .before .if4 .taken in
+    (simp (s, t, u, v) (c .count .ensures), simp (s, t, u, v, count-none, over-none))
+
+returns-5 : tie.Need-returns-5
+unfolding command-of
+returns-5 c =
+    let s = sym (c .before .before .before .before .before .before .before .before .before .before .is .ensures) ∙ c .before .before .before .before .before .before .before .before .before .if1 .left in
+    let t = sym (c .before .before .before .before .before .before .before .is2 .ensures) ∙ c .before .before .before .before .before .before .if2 .left in
+    let u = sym (c .before .before .before .before .is3 .ensures) ∙ c .before .before .before .if3 .left in
+    let v = sym (c .before .is4 .ensures) ∙ c .if4 .left in
+    (simp (s, t, u, v), simp (s, t, u, v, bad-none, over-none))
+
+pub two-arguments-spec : {M : Type 1} → statement M
+two-arguments-spec =
+    tie.close
+    (tie.spec
+    slice-aggregate-is
+    is-requires
+    poke-requires
+    returns
+    slice-aggregate-is-2
+    is-requires-2
+    fill-requires
+    same-length
+    returns-2
+    slice-aggregate-is-3
+    is-requires-3
+    lend-requires
+    returns-3
+    slice-aggregate-is-4
+    is-requires-4
+    count-requires
+    returns-4
+    returns-5)

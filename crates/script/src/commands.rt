@@ -1,0 +1,224 @@
+// The commands, each with its arguments after the end.
+use crate::Command;
+use crate::digits;
+use crate::names;
+use crate::names::FieldNamed;
+use crate::names::KeyNamed;
+use crate::tokens;
+ghost use mathlib.Core.List.{[], _∷_};
+ghost use mathlib.Core.Path.{_≡_};
+ghost use Prim.Native.Nat.{_≤_};
+ghost use lib.ListN.{length};
+ghost use Rattle.script.specs.Script.{tokens as tokens-of, last, field-of, key-of, command-of, carried, over};
+ghost use Rattle.script.specs.Script.{start as start-of, accept as accept-of, send as send-of, receive as receive-of};
+ghost use Rattle.script.specs.Script.{poke as poke-of, fill as fill-of, lend as lend-of, count as count-of};
+
+// The command of its word and of one argument or more.
+pub fn arguments(op: &[u8], rest: &[u8], bytes: &mut [u8]) -> Command
+    requires { ⌜ 2000 ≤ length (now bytes) ⌝ }
+    ensures { λ r. ⌜ r ≡ command-of (now (op .entry)) (tokens-of (now (rest .entry))) ⌝ }
+    ensures { λ r. ⌜ now (bytes .exit) ≡ over (carried (command-of (now (op .entry)) (tokens-of (now (rest .entry)))) (last (tokens-of (now (rest .entry))))) (now (bytes .entry)) ⌝ }
+{
+    let n = tokens::first_token(rest);
+    if n < rest.len() {
+        let from = n + 1;
+        more_arguments(op, &rest[0..n], &rest[from..], bytes)
+    } else {
+        one_argument(op, rest, bytes)
+    }
+}
+
+fn more_arguments(op: &[u8], a: &[u8], rest: &[u8], bytes: &mut [u8]) -> Command
+    requires { ⌜ 2000 ≤ length (now bytes) ⌝ }
+    ensures { λ r. ⌜ r ≡ command-of (now (op .entry)) (now (a .entry) ∷ tokens-of (now (rest .entry))) ⌝ }
+    ensures { λ r. ⌜ now (bytes .exit) ≡ over (carried (command-of (now (op .entry)) (now (a .entry) ∷ tokens-of (now (rest .entry)))) (last (tokens-of (now (rest .entry))))) (now (bytes .entry)) ⌝ }
+{
+    let n = tokens::first_token(rest);
+    if n < rest.len() {
+        let from = n + 1;
+        last_arguments(op, a, &rest[0..n], &rest[from..])
+    } else {
+        two_arguments(op, a, rest, bytes)
+    }
+}
+
+fn last_arguments(op: &[u8], a: &[u8], b: &[u8], rest: &[u8]) -> Command
+    ensures { λ r. ⌜ r ≡ command-of (now (op .entry)) (now (a .entry) ∷ now (b .entry) ∷ tokens-of (now (rest .entry))) ⌝ }
+{
+    let n = tokens::first_token(rest);
+    if n < rest.len() {
+        Command::Bad
+    } else {
+        three_arguments(op, a, b, rest)
+    }
+}
+
+pub fn no_argument(op: &[u8]) -> Command
+    ensures { λ r. ⌜ r ≡ command-of (now (op .entry)) [] ⌝ }
+{
+    if tokens::is(op, b"ticket") {
+        Command::Ticket
+    } else {
+        Command::Bad
+    }
+}
+
+fn one_argument(op: &[u8], a: &[u8], bytes: &mut [u8]) -> Command
+    requires { ⌜ 2000 ≤ length (now bytes) ⌝ }
+    ensures { λ r. ⌜ r ≡ command-of (now (op .entry)) (now (a .entry) ∷ []) ⌝ }
+    ensures { λ r. ⌜ now (bytes .exit) ≡ over (carried (command-of (now (op .entry)) (now (a .entry) ∷ [])) (now (a .entry))) (now (bytes .entry)) ⌝ }
+{
+    if tokens::is(op, b"start") {
+        return start(a);
+    }
+    if tokens::is(op, b"accept") {
+        return accept(a, bytes);
+    }
+    if tokens::is(op, b"receive") {
+        return receive(a, bytes);
+    }
+    Command::Bad
+}
+
+fn two_arguments(op: &[u8], a: &[u8], b: &[u8], bytes: &mut [u8]) -> Command
+    requires { ⌜ 2000 ≤ length (now bytes) ⌝ }
+    ensures { λ r. ⌜ r ≡ command-of (now (op .entry)) (now (a .entry) ∷ now (b .entry) ∷ []) ⌝ }
+    ensures { λ r. ⌜ now (bytes .exit) ≡ over (carried (command-of (now (op .entry)) (now (a .entry) ∷ now (b .entry) ∷ [])) (now (b .entry))) (now (bytes .entry)) ⌝ }
+{
+    if tokens::is(op, b"poke") {
+        return poke(a, b);
+    }
+    if tokens::is(op, b"fill") {
+        return fill(a, b, bytes);
+    }
+    if tokens::is(op, b"lend") {
+        return lend(a, b);
+    }
+    if tokens::is(op, b"count") {
+        return count(a, b);
+    }
+    Command::Bad
+}
+
+fn three_arguments(op: &[u8], a: &[u8], b: &[u8], c: &[u8]) -> Command
+    ensures { λ r. ⌜ r ≡ command-of (now (op .entry)) (now (a .entry) ∷ now (b .entry) ∷ now (c .entry) ∷ []) ⌝ }
+{
+    if tokens::is(op, b"send") {
+        send(a, b, c)
+    } else {
+        Command::Bad
+    }
+}
+
+fn start(length: &[u8]) -> Command
+    ensures { λ r. ⌜ r ≡ start-of (now (length .entry)) ⌝ }
+{
+    let n = digits::number(length, 70000);
+    if n.ok {
+        Command::Start(n.value as usize)
+    } else {
+        Command::Bad
+    }
+}
+
+fn accept(hex: &[u8], bytes: &mut [u8]) -> Command
+    requires { ⌜ 2000 ≤ length (now bytes) ⌝ }
+    ensures { λ r. ⌜ r ≡ accept-of (now (hex .entry)) ⌝ }
+    ensures { λ r. ⌜ now (bytes .exit) ≡ over (carried (accept-of (now (hex .entry))) (now (hex .entry))) (now (bytes .entry)) ⌝ }
+{
+    let h = digits::take_hex(hex, bytes);
+    if h.ok {
+        Command::Accept(h.count)
+    } else {
+        Command::Bad
+    }
+}
+
+fn send(length: &[u8], errors: &[u8], info: &[u8]) -> Command
+    ensures { λ r. ⌜ r ≡ send-of (now (length .entry)) (now (errors .entry)) (now (info .entry)) ⌝ }
+{
+    let l = digits::number(length, 2000);
+    let e = digits::number(errors, 255);
+    let i = digits::number(info, u64::MAX);
+    if l.ok & e.ok & i.ok {
+        Command::Send(l.value as usize, e.value as u8, i.value)
+    } else {
+        Command::Bad
+    }
+}
+
+fn receive(hex: &[u8], bytes: &mut [u8]) -> Command
+    requires { ⌜ 2000 ≤ length (now bytes) ⌝ }
+    ensures { λ r. ⌜ r ≡ receive-of (now (hex .entry)) ⌝ }
+    ensures { λ r. ⌜ now (bytes .exit) ≡ over (carried (receive-of (now (hex .entry))) (now (hex .entry))) (now (bytes .entry)) ⌝ }
+{
+    let h = digits::take_hex(hex, bytes);
+    if h.ok {
+        Command::Receive(h.count)
+    } else {
+        Command::Bad
+    }
+}
+
+fn poke(name: &[u8], token: &[u8]) -> Command
+    ensures { λ r. ⌜ r ≡ poke-of (field-of (now (name .entry))) (now (token .entry)) ⌝ }
+{
+    let named = names::field_named(name);
+    match named {
+        FieldNamed::Unknown => Command::Bad,
+        FieldNamed::Known(f) => {
+            let v = digits::number(token, names::most(f));
+            if v.ok {
+                Command::Poke(f, v.value)
+            } else {
+                Command::Bad
+            }
+        }
+    }
+}
+
+fn fill(offset: &[u8], hex: &[u8], bytes: &mut [u8]) -> Command
+    requires { ⌜ 2000 ≤ length (now bytes) ⌝ }
+    ensures { λ r. ⌜ r ≡ fill-of (now (offset .entry)) (now (hex .entry)) ⌝ }
+    ensures { λ r. ⌜ now (bytes .exit) ≡ over (carried (fill-of (now (offset .entry)) (now (hex .entry))) (now (hex .entry))) (now (bytes .entry)) ⌝ }
+{
+    let o = digits::offset(offset);
+    if !o.ok {
+        return Command::Bad;
+    }
+    let h = digits::take_hex(hex, bytes);
+    if h.ok {
+        Command::Fill(o.value, h.count)
+    } else {
+        Command::Bad
+    }
+}
+
+fn lend(store: &[u8], hold: &[u8]) -> Command
+    ensures { λ r. ⌜ r ≡ lend-of (now (store .entry)) (now (hold .entry)) ⌝ }
+{
+    let s = digits::number(store, 70000);
+    let h = digits::number(hold, 2000);
+    if s.ok & h.ok {
+        Command::Lend(s.value as usize, h.value as usize)
+    } else {
+        Command::Bad
+    }
+}
+
+fn count(name: &[u8], token: &[u8]) -> Command
+    ensures { λ r. ⌜ r ≡ count-of (key-of (now (name .entry))) (now (token .entry)) ⌝ }
+{
+    let named = names::key_named(name);
+    match named {
+        KeyNamed::Unknown => Command::Bad,
+        KeyNamed::Known(k) => {
+            let v = digits::number(token, 4294967295);
+            if v.ok {
+                Command::Count(k, v.value as u32)
+            } else {
+                Command::Bad
+            }
+        }
+    }
+}

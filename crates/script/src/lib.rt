@@ -1,0 +1,157 @@
+// Script lines: text that drives two ends by hand. One line, without its line feed, is read into a command; a line that is no command
+// is bad.
+mod commands;
+mod digits;
+mod names;
+mod tokens;
+
+use names::EndNamed;
+ghost use mathlib.Core.List.{_∷_};
+ghost use mathlib.Core.Path.{_≡_};
+ghost use Prim.Native.Nat.{_≤_};
+ghost use lib.ListN.{length};
+ghost use Rattle.script.specs.Script.{tokens, last, for-end, line-from, line-of, carried, bytes-of, over};
+
+// The end that a command is for.
+pub enum Which {
+    A,
+    B,
+}
+
+// The fields of the state that poke sets, by the names of the output line.
+pub enum Field {
+    Capacity,
+    First,
+    Held,
+    Kept,
+    Oldest,
+    Cursor,
+    Sent,
+    Acked,
+    Wanted,
+    Position,
+    Owed,
+    Stalled,
+    Data,
+    Untold,
+    Mode,
+    Cause,
+    Discards,
+    Pending,
+    Info(usize),
+}
+
+// The counts of the ticket that count sets.
+pub enum Key {
+    Accepted,
+    Delivered,
+    Damaged,
+    Duplicate,
+    Downs,
+}
+
+// Accept, Receive and Fill hold the number of bytes of their HEX, which stand in the buffer lent for them.
+pub enum Command {
+    Bad,
+    Start(usize),
+    Accept(usize),
+    Send(usize, u8, u64),
+    Receive(usize),
+    Poke(Field, u64),
+    Fill(u64, usize),
+    Lend(usize, usize),
+    Ticket,
+    Count(Key, u32),
+}
+
+// A bad line is for end a.
+pub struct Line {
+    pub which: Which,
+    pub command: Command,
+}
+
+// Reads a line. The bytes of its HEX go to the first places of the buffer.
+pub fn read_line(line: &[u8], bytes: &mut [u8]) -> Line
+    requires { ⌜ 2000 ≤ length (now bytes) ⌝ }
+    ensures { λ r. ⌜ r ≡ line-of (now (line .entry)) ⌝ }
+    ensures { λ r. ⌜ now (bytes .exit) ≡ over (bytes-of (now (line .entry))) (now (bytes .entry)) ⌝ }
+{
+    let n = tokens::first_token(line);
+    if n < line.len() {
+        let from = n + 1;
+        after_word(&line[0..n], &line[from..], bytes)
+    } else {
+        for_end(Which::A, Command::Bad)
+    }
+}
+
+// What follows the command's word: the end, and the arguments.
+fn after_word(op: &[u8], rest: &[u8], bytes: &mut [u8]) -> Line
+    requires { ⌜ 2000 ≤ length (now bytes) ⌝ }
+    ensures { λ r. ⌜ r ≡ line-from (now (op .entry) ∷ tokens (now (rest .entry))) ⌝ }
+    ensures { λ r. ⌜ now (bytes .exit) ≡ over (carried (line-from (now (op .entry) ∷ tokens (now (rest .entry))) .command) (last (tokens (now (rest .entry))))) (now (bytes .entry)) ⌝ }
+{
+    let n = tokens::first_token(rest);
+    let e = names::end_named(&rest[0..n]);
+    match e {
+        EndNamed::Unknown => for_end(Which::A, Command::Bad),
+        EndNamed::Known(w) => {
+            if n < rest.len() {
+                let from = n + 1;
+                let c = commands::arguments(op, &rest[from..], bytes);
+                for_end(w, c)
+            } else {
+                let c = commands::no_argument(op);
+                for_end(w, c)
+            }
+        }
+    }
+}
+
+// A bad line is for end a.
+fn for_end(w: Which, c: Command) -> Line
+    ensures { λ r. ⌜ r ≡ for-end w c ⌝ }
+{
+    match c {
+        Command::Bad => Line {
+            which: Which::A,
+            command: c,
+        },
+        Command::Start(_) => Line {
+            which: w,
+            command: c,
+        },
+        Command::Accept(_) => Line {
+            which: w,
+            command: c,
+        },
+        Command::Send(_, _, _) => Line {
+            which: w,
+            command: c,
+        },
+        Command::Receive(_) => Line {
+            which: w,
+            command: c,
+        },
+        Command::Poke(_, _) => Line {
+            which: w,
+            command: c,
+        },
+        Command::Fill(_, _) => Line {
+            which: w,
+            command: c,
+        },
+        Command::Lend(_, _) => Line {
+            which: w,
+            command: c,
+        },
+        Command::Ticket => Line {
+            which: w,
+            command: c,
+        },
+        Command::Count(_, _) => Line {
+            which: w,
+            command: c,
+        },
+    }
+}
