@@ -3,7 +3,7 @@
 use mathlib.Core.Path.{refl}
 use Rattle.numbers.specs.Numbers.{after, difference, acknowledge-number, wanted-by}
 use Rattle.crc.specs.Unit.{polynomial, bits, right}
-use Rattle.crc.specs.Seal.{withCheck, checkOf, sealed}
+use Rattle.crc.specs.Seal.{with-check, check-of, sealed}
 use Rattle.flits.specs.Bytes.{number, bytes}
 use Rattle.flits.specs.Fields.{fields-of, acceptable}
 use Rattle.flits.specs.Flits.{control-told, idle-flit, replay-flit}
@@ -18,7 +18,7 @@ use Rattle.receive.specs.Receive.{verdict as receive-verdict, waiting, discarde
 use Rattle.cases.specs.Cases.{BenchCases}
 
 pub bench-cases : BenchCases
-unfolding after difference acknowledge-number wanted-by polynomial bits right withCheck checkOf sealed number bytes fields-of acceptable control-told idle-flit replay-flit store-fits fresh start place begun walk store-is counts-sound numbers-sound units-sound sound unit-shaped accept-verdict accept send-verdict replay-sent burst moved send send-output holds closes length-wrong stall-wrong straddles damaged skips newly-covered past-sent replay-answer run-answer wait-answer last-border freed acknowledged receive-verdict waiting discarded replaced end-after answer-to receive
+unfolding after difference acknowledge-number wanted-by polynomial bits right with-check check-of sealed number bytes fields-of acceptable control-told idle-flit replay-flit store-fits fresh start place begun walk store-is counts-sound numbers-sound units-sound sound unit-shaped accept-verdict accept send-verdict replay-sent burst moved send send-output holds closes length-wrong stall-wrong straddles damaged skips newly-covered past-sent replay-answer run-answer wait-answer last-border freed acknowledged receive-verdict waiting discarded replaced end-after answer-to receive
 bench-cases =
     record {
       case-1 = (refl, refl);
