@@ -11,10 +11,13 @@ use Rattle.ends.specs.State.{store-fits, fresh, start}
 use Rattle.ends.specs.Ring.{place, begun, walk}
 use Rattle.ends.specs.Refusals.{store-is, counts-sound, numbers-sound, units-sound, sound}
 use Rattle.accept.specs.Accept.{unit-shaped, verdict as accept-verdict, accept}
-use Rattle.send.specs.Send.{verdict as send-verdict, replay-sent, burst, moved, send, send-output}
-use Rattle.answers.specs.Answers.{holds, closes, length-wrong, stall-wrong, straddles, damaged, skips, newly-covered, past-sent, replay-answer, run-answer, wait-answer}
-use Rattle.receive.specs.Acknowledge.{last-border, freed, acknowledged}
-use Rattle.receive.specs.Receive.{verdict as receive-verdict, waiting, discarded, replaced, end-after, answer-to, receive}
+use Rattle.burst.specs.Burst.{replay-sent, burst, moved}
+use Rattle.send.specs.Send.{verdict as send-verdict, send, send-output}
+use Rattle.arrivals.specs.Arrivals.{holds, closes, length-wrong, stall-wrong, straddles, damaged, skips, newly-covered, past-sent}
+use Rattle.answers.specs.Answers.{replay-answer, run-answer, wait-answer}
+use Rattle.acknowledge.specs.Acknowledge.{last-border, freed, acknowledged}
+use Rattle.effects.specs.Effects.{waiting, discarded, replaced, end-after}
+use Rattle.receive.specs.Receive.{verdict as receive-verdict, answer-to, receive}
 use Rattle.cases.specs.Cases.{BenchCases}
 
 pub bench-cases : BenchCases

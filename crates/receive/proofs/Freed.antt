@@ -22,10 +22,10 @@ use Rattle.ends.proofs.Facts.{stored-is, sound-is}
 use Rattle.ends.proofs.Places.{place-under}
 use Rattle.ends.proofs.Tests.{pick-either}
 use Rattle.ends.proofs.Walks.{fair, next-border, sound-before}
-use Rattle.answers.specs.Answers.{past-sent}
-use Rattle.receive.specs.Acknowledge.{freed-by, freed, sent-anew, acknowledged}
-use Rattle.receive.proofs.Borders.{border-within, border-found}
-use Rattle.receive.proofs.Covering.{Fitting}
+use Rattle.arrivals.specs.Arrivals.{past-sent}
+use Rattle.acknowledge.specs.Acknowledge.{freed-by, freed, sent-anew, acknowledged}
+use Rattle.acknowledge.proofs.Borders.{border-within, border-found}
+use Rattle.effects.proofs.Covering.{Fitting}
 use Rattle.receive.proofs.Shifted.{walk-on, border-last, begins}
 use Rattle.receive.proofs.Sides.{Sending, Sends}
 

@@ -22,9 +22,10 @@ use Rattle.ends.proofs.Tests.{pick-either}
 use Rattle.ends.proofs.Facts.{stored-is, sound-is}
 use Rattle.ends.proofs.Holds.{sound-holds, counts-of, numbers-hold, units-hold, untold-sound, pending-sound}
 use Rattle.ends.proofs.Walks.{next-border}
-use Rattle.send.specs.Send.{verdict, fallen, past-unit, moved, sent-by, send}
+use Rattle.burst.specs.Burst.{fallen, past-unit, moved}
+use Rattle.send.specs.Send.{verdict, sent-by, send}
 use Rattle.send.proofs.Cases.{admitted}
-use Rattle.send.proofs.Ready.{unit-whole}
+use Rattle.burst.proofs.Ready.{unit-whole}
 
 -- ---- what holds in each case holds of the end after it
 

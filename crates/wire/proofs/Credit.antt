@@ -14,8 +14,8 @@ use Rattle.ends.specs.Ring.{flit-at, place}
 use Rattle.ends.specs.Refusals.{cursor-at, acknowledged-at}
 use Rattle.ends.specs.declared.state.End.{End}
 use Rattle.ends.proofs.Tests.{pick-true, pick-false}
-use Rattle.receive.specs.Acknowledge.{freed-by, freed, sent-anew, acknowledged}
-use Rattle.receive.specs.Receive.{nacked}
+use Rattle.acknowledge.specs.Acknowledge.{freed-by, freed, sent-anew, acknowledged}
+use Rattle.effects.specs.Effects.{nacked}
 use Rattle.link.specs.Stream.{Stream, owed, num}
 use Rattle.link.specs.End.{Sender}
 use Rattle.link.specs.Step
@@ -111,7 +111,7 @@ module _ (f : Stream) (store : List ℕ) (s : Sender) (q : End) (l : Local most 
     frees =
         let j = s .acked + n - num f o in
         let e : acknowledged-at q + n ≡ off f store s q l h fo o + j = omega (arith, at-acknowledged f store s q l h fo, w .begins, low, l .freed) in
-        ap (Rattle.receive.specs.Acknowledge.last-border (q .capacity .0) (q .first) (Rattle.ends.specs.Ring.begun (q .kept .0)) store) e
+        ap (Rattle.acknowledge.specs.Acknowledge.last-border (q .capacity .0) (q .first) (Rattle.ends.specs.Ring.begun (q .kept .0)) store) e
         ∙ borders-in f store s q l h fo o j (w .least) o-le (omega (arith, w .ends))
 
     abbrev left-over : End

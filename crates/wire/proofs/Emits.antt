@@ -23,8 +23,9 @@ use Rattle.ends.specs.Refusals.{cursor-at, sent-at, run-at-cursor, is-wait}
 use Rattle.ends.specs.Update.{with-untold, with-pending}
 use Rattle.ends.specs.declared.state.End.{End as KeptEnd}
 use Rattle.ends.proofs.Tests.{pick-true, pick-false, pick-either}
-use Rattle.send.specs.Send as sending
-use Rattle.send.specs.Send.{fallen, replay-sent, unit-waits, stored-flits, control-at-cursor, unit-sent, burst, burst-flits, past-unit}
+use Rattle.burst.specs.Burst as sending
+use Rattle.units.specs.Units.{stored-flits, control-at-cursor, unit-sent}
+use Rattle.burst.specs.Burst.{fallen, replay-sent, unit-waits, burst, burst-flits, past-unit}
 use Rattle.link.specs.Stream.{Block, Stream, owed, num, some, Item, control, idle, replay}
 use Rattle.link.specs.End.{Mode, run, wait, down, End}
 use Rattle.link.specs.Step

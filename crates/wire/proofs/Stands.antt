@@ -21,7 +21,7 @@ use Rattle.ends.specs.declared.state.End.{End}
 use Rattle.ends.specs.declared.walk.Walk.{Walk}
 use Rattle.ends.proofs.Tests.{and-true, pick-true, pick-false}
 use Rattle.ends.proofs.Walks.{inside, next-border}
-use Rattle.receive.specs.Acknowledge.{last-border}
+use Rattle.acknowledge.specs.Acknowledge.{last-border}
 use Rattle.link.specs.Stream.{Block, Stream, owed, num}
 use Rattle.link.specs.End.{Sender}
 use Rattle.link.proofs.Num.{num-le}
