@@ -11,7 +11,8 @@ use Rattle.ends.specs.declared.state.End.{End}
 use Rattle.ends.specs.declared.state.Mode.{Mode}
 use Rattle.ends.specs.declared.state.Mode.the-variants.{Run, Wait, Down}
 use Rattle.ends.proofs.Tests.{pick-true, pick-either}
-use Rattle.answers.specs.Answers.{holds, held-in, damaged, skips, newly-covered, past-sent, behind, half, replay-answer, plain-answer, run-answer, wait-answer, mode-answer}
+use Rattle.arrivals.specs.Arrivals.{holds, held-in, damaged, skips, newly-covered, past-sent, behind}
+use Rattle.answers.specs.Answers.{half, replay-answer, plain-answer, run-answer, wait-answer, mode-answer}
 use Rattle.answers.specs.declared.Answer.{Answer}
 use Rattle.answers.specs.declared.Answer.the-variants as answer
 

@@ -3,7 +3,7 @@
 use mathlib.Core.Path.{refl}
 use Rattle.numbers.specs.Numbers.{after, difference, acknowledge-number, wanted-by}
 use Rattle.crc.specs.Unit.{polynomial, bits, right}
-use Rattle.crc.specs.Seal.{withCheck, checkOf, sealed}
+use Rattle.crc.specs.Seal.{with-check, check-of, sealed}
 use Rattle.flits.specs.Bytes.{number, bytes}
 use Rattle.flits.specs.Fields.{fields-of, acceptable}
 use Rattle.flits.specs.Flits.{control-told, idle-flit, replay-flit}
@@ -11,14 +11,17 @@ use Rattle.ends.specs.State.{store-fits, fresh, start}
 use Rattle.ends.specs.Ring.{place, begun, walk}
 use Rattle.ends.specs.Refusals.{store-is, counts-sound, numbers-sound, units-sound, sound}
 use Rattle.accept.specs.Accept.{unit-shaped, verdict as accept-verdict, accept}
-use Rattle.send.specs.Send.{verdict as send-verdict, replay-sent, burst, moved, send, send-output}
-use Rattle.answers.specs.Answers.{holds, closes, length-wrong, stall-wrong, straddles, damaged, skips, newly-covered, past-sent, replay-answer, run-answer, wait-answer}
-use Rattle.receive.specs.Acknowledge.{last-border, freed, acknowledged}
-use Rattle.receive.specs.Receive.{verdict as receive-verdict, waiting, discarded, replaced, end-after, answer-to, receive}
+use Rattle.burst.specs.Burst.{replay-sent, burst, moved}
+use Rattle.send.specs.Send.{verdict as send-verdict, send, send-output}
+use Rattle.arrivals.specs.Arrivals.{holds, closes, length-wrong, stall-wrong, straddles, damaged, skips, newly-covered, past-sent}
+use Rattle.answers.specs.Answers.{replay-answer, run-answer, wait-answer}
+use Rattle.acknowledge.specs.Acknowledge.{last-border, freed, acknowledged}
+use Rattle.effects.specs.Effects.{waiting, discarded, replaced, end-after}
+use Rattle.receive.specs.Receive.{verdict as receive-verdict, answer-to, receive}
 use Rattle.cases.specs.Cases.{BenchCases}
 
 pub bench-cases : BenchCases
-unfolding after difference acknowledge-number wanted-by polynomial bits right withCheck checkOf sealed number bytes fields-of acceptable control-told idle-flit replay-flit store-fits fresh start place begun walk store-is counts-sound numbers-sound units-sound sound unit-shaped accept-verdict accept send-verdict replay-sent burst moved send send-output holds closes length-wrong stall-wrong straddles damaged skips newly-covered past-sent replay-answer run-answer wait-answer last-border freed acknowledged receive-verdict waiting discarded replaced end-after answer-to receive
+unfolding after difference acknowledge-number wanted-by polynomial bits right with-check check-of sealed number bytes fields-of acceptable control-told idle-flit replay-flit store-fits fresh start place begun walk store-is counts-sound numbers-sound units-sound sound unit-shaped accept-verdict accept send-verdict replay-sent burst moved send send-output holds closes length-wrong stall-wrong straddles damaged skips newly-covered past-sent replay-answer run-answer wait-answer last-border freed acknowledged receive-verdict waiting discarded replaced end-after answer-to receive
 bench-cases =
     record {
       case-1 = (refl, refl);

@@ -12,11 +12,11 @@ use lib.Pow.{pow-pos}
 use lib.ListN.{length}
 use lib.Bits.{xor-zero-r}
 use Rattle.crc.specs.Poly.{remainder}
-use Rattle.crc.specs.Unit.{bits, bitsOf, polynomial, right, Bytes}
-use Rattle.crc.specs.Register.{number, places, generator, takeByte, continued}
+use Rattle.crc.specs.Unit.{bits, bits-of, polynomial, right, Bytes}
+use Rattle.crc.specs.Register.{number, places, generator, take-byte, continued}
 use Rattle.crc.proofs.Xor.{_⊕_}
 use Rattle.crc.proofs.Places.{places-take}
-use Rattle.crc.proofs.Numbers.{number-append, number-bitsOf, number-remainder}
+use Rattle.crc.proofs.Numbers.{number-append, number-bits-of, number-remainder}
 use Rattle.crc.proofs.Divides.{low, polynomial-low, number-low, length-low, zero-test}
 
 pub length-bits : (bs : List ℕ) → length (bits bs) ≡ 8 * length bs
@@ -28,11 +28,11 @@ pub bits-append : (xs ys : List ℕ) → bits (xs ++ ys) ≡ bits xs ++ bits ys
 unfolding bits
 bits-append [] ys = refl
 bits-append (x ∷ xs) ys =
-    ap (λ (v : List Bool). bitsOf 8 x ++ v) (bits-append xs ys) ∙ sym (append-assoc (bitsOf 8 x) (bits xs) (bits ys))
+    ap (λ (v : List Bool). bits-of 8 x ++ v) (bits-append xs ys) ∙ sym (append-assoc (bits-of 8 x) (bits xs) (bits ys))
 
 pub number-bits : (b : ℕ) (bs : List ℕ) → number (bits (b ∷ bs)) ≡ number (bits bs) * 2 ^ 8 + b % 2 ^ 8
 unfolding bits
-number-bits b bs = number-append (bitsOf 8 b) (bits bs) ∙ ap (λ (x : ℕ). number (bits bs) * 2 ^ 8 + x) (number-bitsOf 8 b)
+number-bits b bs = number-append (bits-of 8 b) (bits bs) ∙ ap (λ (x : ℕ). number (bits bs) * 2 ^ 8 + x) (number-bits-of 8 b)
 
 -- bytes with equal bits are equal
 pub bytes-inj : (bs cs : List ℕ) → length bs ≡ length cs → Bytes bs → Bytes cs → number (bits bs) ≡ number (bits cs) → bs ≡ cs
@@ -48,7 +48,7 @@ continued-places : (r : ℕ) (s : List ℕ) → continued r s ≡ places generat
 unfolding bits
 continued-places r [] = sym (xor-zero-r r)
 continued-places r (b ∷ bs) =
-    continued-places (takeByte r b) bs
+    continued-places (take-byte r b) bs
     ∙ ap (places generator (length (bits bs)))
     (sym (places-take generator 8 28 r (number (bits bs)) (b % 2 ^ 8) (mod-lt b (pow-pos 8)))
     ∙ ap (λ (x : ℕ). places generator 8 (r ⊕ (x * 2 ^ 36))) (sym (number-bits b bs)))
@@ -56,7 +56,7 @@ continued-places r (b ∷ bs) =
 -- one part after the other
 pub continued-append : (r : ℕ) (xs ys : List ℕ) → continued r (xs ++ ys) ≡ continued (continued r xs) ys
 continued-append r [] ys = refl
-continued-append r (x ∷ xs) ys = continued-append (takeByte r x) xs ys
+continued-append r (x ∷ xs) ys = continued-append (take-byte r x) xs ys
 
 -- begun at 0, it is the remainder
 pub continued-remainder : (s : List ℕ) → continued 0 s ≡ number (remainder polynomial (bits s))

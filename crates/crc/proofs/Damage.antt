@@ -12,7 +12,7 @@ use lib.Pow.{pow-mono}
 use lib.ListN.{length, replicate, length-append, length-replicate}
 use lib.Bits.{bitXor, xor-zero-r}
 use Rattle.crc.specs.Poly.{xor, plus, scale, times, Divides, remainder}
-use Rattle.crc.specs.Unit.{odd, isOne, polynomial, bits, Bytes, Right, right, changed, weight, Within}
+use Rattle.crc.specs.Unit.{odd, is-one, polynomial, bits, Bytes, Right, right, changed, weight, Within}
 use Rattle.crc.specs.Register.{number, pick, place, places}
 use Rattle.crc.proofs.Xor.{_⊕_, xor-shl, same-of-zero}
 use Rattle.crc.proofs.Places.{places-xor, places-shift, places-add, places-zero, place-lt}
@@ -81,10 +81,10 @@ odd-suc n = go (n % 2) refl
     go : (r : ℕ) → n % 2 ≡ r → odd (suc n) ≡ not (odd n)
     go zero h =
         let k : suc n % 2 ≡ 1 = omega arith in
-        ap isOne k ∙ sym (ap (λ (x : ℕ). not (isOne x)) h)
+        ap is-one k ∙ sym (ap (λ (x : ℕ). not (is-one x)) h)
     go (suc r) h =
         let k : suc n % 2 ≡ 0 = omega arith in
-        ap isOne k ∙ sym (ap (λ (x : ℕ). not (isOne x)) h)
+        ap is-one k ∙ sym (ap (λ (x : ℕ). not (is-one x)) h)
 
 odd-weight : (u : List Bool) → odd (weight u) ≡ parity u
 odd-weight [] = refl
@@ -99,10 +99,10 @@ module _ (k : ℕ) (low : List Bool) (size : length low ≡ suc k) (last : 2 ^ k
     where
       go : (o : ℕ) → s % 2 ≡ o → s ≡ 0
       go zero z =
-          let half : s / 2 ≡ 0 = sym (xor-zero-r (s / 2)) ∙ sym (ap (λ (x : ℕ). (s / 2) ⊕ pick (isOne x) (number low)) z) ∙ e in
+          let half : s / 2 ≡ 0 = sym (xor-zero-r (s / 2)) ∙ sym (ap (λ (x : ℕ). (s / 2) ⊕ pick (is-one x) (number low)) z) ∙ e in
           omega (arith, div-add-mod' s 2)
       go (suc o) z =
-          let half : s / 2 ≡ number low = same-of-zero (s / 2) (number low) (sym (ap (λ (x : ℕ). (s / 2) ⊕ pick (isOne x) (number low)) z) ∙ e) in
+          let half : s / 2 ≡ number low = same-of-zero (s / 2) (number low) (sym (ap (λ (x : ℕ). (s / 2) ⊕ pick (is-one x) (number low)) z) ∙ e) in
           absurd (omega (arith, pow-suc 2 k))
 
   places-live : (n s : ℕ) → s < 2 ^ suc k → places (number low) n s ≡ 0 → s ≡ 0

@@ -14,7 +14,7 @@ use borrow.Author.Tests.{eq-eqb, ne-eqb}
 use lib.ListN.{length, length-map, length-append, length-replicate, replicate}
 use lib.Bits.{bitXor, xor-zero-r, xor-comm, xor-self, xor-block}
 use Rattle.crc.specs.Poly.{plus, scale, times, Divides, remainder}
-use Rattle.crc.specs.Unit.{odd, bits, powers, coefficients, polynomial, Right, right, allZero}
+use Rattle.crc.specs.Unit.{odd, bits, powers, coefficients, polynomial, Right, right, all-zero}
 use Rattle.crc.specs.Register.{digit, number, pick, place, places, generator}
 use Rattle.crc.proofs.Xor.{_⊕_, xor-assoc, digit-odd, digit-lt}
 use Rattle.crc.proofs.Places.{place-xor, place-double, places-shift, places-add}
@@ -154,10 +154,10 @@ pub decides : (u : List Bool) → (number (remainder polynomial u) ≡ 0) ↔ Di
 decides u = subst (λ (p : List Bool). (number (remainder p u) ≡ 0) ↔ Divides p u) (sym polynomial-low) (divides-zero low u)
 
 -- all coefficients are 0 exactly when the number is, as a test
-pub zero-test : (u : List Bool) → eqb (number u) 0 ≡ allZero u
-zero-test u = go (allZero u) refl
+pub zero-test : (u : List Bool) → eqb (number u) 0 ≡ all-zero u
+zero-test u = go (all-zero u) refl
   where
-    go : (b : Bool) → allZero u ≡ b → eqb (number u) 0 ≡ allZero u
+    go : (b : Bool) → all-zero u ≡ b → eqb (number u) 0 ≡ all-zero u
     go true e = eq-eqb (number u) 0 (zero-number u e) ∙ sym e
     go false e = ne-eqb (number u) 0 (λ z. true≢false (sym (number-zero u z) ∙ e)) ∙ sym e
 

@@ -13,7 +13,7 @@ use lib.Pow.{mod-pow-add}
 use lib.ListN.{length, replicate}
 use lib.Bits.{xor-zero-r, xor-comm, xor-block}
 use Rattle.crc.specs.Poly.{xor, plus, scale, divide, remainder}
-use Rattle.crc.specs.Unit.{odd, isOne, bitsOf, allZero}
+use Rattle.crc.specs.Unit.{odd, is-one, bits-of, all-zero}
 use Rattle.crc.specs.Register.{digit, number, pick, places}
 use Rattle.crc.proofs.Xor.{_⊕_, digit-odd, digit-lt}
 use Rattle.crc.proofs.Places.{places-zero}
@@ -39,12 +39,12 @@ number-scale false (x ∷ p) = ap (λ (n : ℕ). n * 2 + 0) (number-scale false 
 pub half-number : (h : Bool) (u : List Bool) → number (h ∷ u) / 2 ≡ number u
 half-number h u = digits-div (number u) (digit-lt h)
 
-isOne-digit : (h : Bool) → isOne (digit h) ≡ h
-isOne-digit true = refl
-isOne-digit false = refl
+is-one-digit : (h : Bool) → is-one (digit h) ≡ h
+is-one-digit true = refl
+is-one-digit false = refl
 
 pub odd-number : (h : Bool) (u : List Bool) → odd (number (h ∷ u)) ≡ h
-odd-number h u = ap isOne (digits-mod (number u) (digit-lt h)) ∙ isOne-digit h
+odd-number h u = ap is-one (digits-mod (number u) (digit-lt h)) ∙ is-one-digit h
 
 pub number-divide : (low : List Bool) (n : ℕ) (u : List Bool) → number (divide low n u) ≡ places (number low) n (number u)
 number-divide low zero u = refl
@@ -67,15 +67,15 @@ number-remainder low u =
     number-divide low (length u) (replicate (length low) false ++ u)
     ∙ ap (places (number low) (length u)) (number-zeros (length low) u)
 
-pub number-bitsOf : (k n : ℕ) → number (bitsOf k n) ≡ n % 2 ^ k
-number-bitsOf zero n = sym (mod-one n)
-number-bitsOf (suc k) n =
-    ap₂ (λ (x y : ℕ). x * 2 + y) (number-bitsOf k (n / 2)) (digit-odd n)
+pub number-bits-of : (k n : ℕ) → number (bits-of k n) ≡ n % 2 ^ k
+number-bits-of zero n = sym (mod-one n)
+number-bits-of (suc k) n =
+    ap₂ (λ (x y : ℕ). x * 2 + y) (number-bits-of k (n / 2)) (digit-odd n)
     ∙ sym (mod-pow-add n k 1) ∙ ap (λ (x : ℕ). n % 2 ^ x) (add-one k)
 
-pub length-bitsOf : (k n : ℕ) → length (bitsOf k n) ≡ k
-length-bitsOf zero n = refl
-length-bitsOf (suc k) n = ap suc (length-bitsOf k (n / 2))
+pub length-bits-of : (k n : ℕ) → length (bits-of k n) ≡ k
+length-bits-of zero n = refl
+length-bits-of (suc k) n = ap suc (length-bits-of k (n / 2))
 
 pub number-append : (u v : List Bool) → number (u ++ v) ≡ number v * 2 ^ length u + number u
 number-append [] v = sym (add-zero (number v * 1) ∙ mul-one (number v))
@@ -110,12 +110,12 @@ number-inj (x ∷ u) (y ∷ v) l e =
     (number-inj u v (omega arith) (sym (half-number x u) ∙ ap (λ (n : ℕ). n / 2) e ∙ half-number y v))
 
 -- all coefficients are 0 exactly when the number is
-pub zero-number : (u : List Bool) → allZero u ≡ true → number u ≡ 0
+pub zero-number : (u : List Bool) → all-zero u ≡ true → number u ≡ 0
 zero-number [] e = refl
 zero-number (true ∷ u) e = absurd (false≢true e)
 zero-number (false ∷ u) e = ap (λ (n : ℕ). n * 2 + 0) (zero-number u e)
 
-pub number-zero : (u : List Bool) → number u ≡ 0 → allZero u ≡ true
+pub number-zero : (u : List Bool) → number u ≡ 0 → all-zero u ≡ true
 number-zero [] e = refl
 number-zero (true ∷ u) e = absurd (omega arith)
 number-zero (false ∷ u) e = number-zero u (omega arith)

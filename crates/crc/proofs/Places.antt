@@ -9,7 +9,7 @@ use native.Mathlib.Nat.{mod-lt, mul-div-cancel, mul-mod-left, mul-assoc, mul-com
 use lib.Pow.{split, pow-pos, pow-add, shr-le}
 use lib.Bits.{bitXor, xor-zero-r, xor-comm, xor-self, xor-shifted, xor-lt}
 use Rattle.crc.specs.Poly.{xor}
-use Rattle.crc.specs.Unit.{odd, isOne}
+use Rattle.crc.specs.Unit.{odd, is-one}
 use Rattle.crc.specs.Register.{pick, place, places}
 use Rattle.crc.proofs.Xor.{_⊕_, two-pos, xor-half, xor-assoc, xor-shl, exchange, odd-xor}
 
@@ -29,7 +29,7 @@ places-xor g (suc n) a b = ap (places g n) (place-xor g a b) ∙ places-xor g n 
 
 pub place-double : (g v : ℕ) → place g (v * 2) ≡ v
 place-double g v =
-    ap₂ (λ (x y : ℕ). x ⊕ pick (isOne y) g) (mul-div-cancel v two-pos) (mul-mod-left v 2) ∙ xor-zero-r v
+    ap₂ (λ (x y : ℕ). x ⊕ pick (is-one y) g) (mul-div-cancel v two-pos) (mul-mod-left v 2) ∙ xor-zero-r v
 
 pub places-zero : (g n : ℕ) → places g n 0 ≡ 0
 places-zero g zero = refl

@@ -14,12 +14,12 @@ use lib.ListN.{length, take, drop, getD, replicate, length-append, length-replic
 use lib.Pow.{mod-pow-add}
 use lib.Bits.{bitXor, xor-self, xor-shifted}
 use Rattle.crc.specs.Poly.{plus, scale, divide, remainder}
-use Rattle.crc.specs.Unit.{polynomial, bits, bitsOf, Right, right, Bytes}
-use Rattle.crc.specs.Seal.{checkBytes, withCheck, checkOf, sealed}
+use Rattle.crc.specs.Unit.{polynomial, bits, bits-of, Right, right, Bytes}
+use Rattle.crc.specs.Seal.{check-bytes, with-check, check-of, sealed}
 use Rattle.crc.specs.Register.{number, places}
 use Rattle.crc.proofs.Xor.{_⊕_, same-of-zero}
 use Rattle.crc.proofs.Places.{places-xor, places-shift, places-add}
-use Rattle.crc.proofs.Numbers.{number-append, number-bitsOf, number-inj, number-lt, number-remainder, length-bitsOf, trailing}
+use Rattle.crc.proofs.Numbers.{number-append, number-bits-of, number-inj, number-lt, number-remainder, length-bits-of, trailing}
 use Rattle.crc.proofs.Divides.{low, polynomial-low, length-low, plus-right, decides, right-Right}
 use Rattle.crc.proofs.Bytes.{number-bits, bits-append, length-bits}
 
@@ -90,61 +90,61 @@ field-number x c =
     (c % 2 ^ 36) (c % 2 ^ 28) (c % 2 ^ 20) (c % 2 ^ 12)
     (mod-pow-add c 8 28) (mod-pow-add c 8 20) (mod-pow-add c 8 12) (mod-pow-add c 8 4))
 
-bits-field : (x c : ℕ) → bits (checkBytes x c) ≡ bitsOf 4 x ++ bitsOf 36 c
+bits-field : (x c : ℕ) → bits (check-bytes x c) ≡ bits-of 4 x ++ bits-of 36 c
 unfolding bits
 bits-field x c =
-    number-inj (bits (checkBytes x c)) (bitsOf 4 x ++ bitsOf 36 c) refl
+    number-inj (bits (check-bytes x c)) (bits-of 4 x ++ bits-of 36 c) refl
     (five (x % 16 + c % 16 * 16) (c / 2 ^ 4 % 256) (c / 2 ^ 12 % 256) (c / 2 ^ 20 % 256) (c / 2 ^ 28 % 256) ∙ field-number x c
-    ∙ sym (number-append (bitsOf 4 x) (bitsOf 36 c) ∙ ap₂ (λ (m n : ℕ). m * 2 ^ 4 + n) (number-bitsOf 36 c) (number-bitsOf 4 x)))
+    ∙ sym (number-append (bits-of 4 x) (bits-of 36 c) ∙ ap₂ (λ (m n : ℕ). m * 2 ^ 4 + n) (number-bits-of 36 c) (number-bits-of 4 x)))
 
 -- all of a unit's bits before the check field
-abbrev dataBits : List ℕ → List Bool
-dataBits bs = bits (take (length bs - 5) bs) ++ bitsOf 4 (getD bs (length bs - 5) 0)
+abbrev data-bits : List ℕ → List Bool
+data-bits bs = bits (take (length bs - 5) bs) ++ bits-of 4 (getD bs (length bs - 5) 0)
 
-bits-with : (bs : List ℕ) (c : ℕ) → bits (withCheck bs c) ≡ dataBits bs ++ bitsOf 36 c
-unfolding withCheck
+bits-with : (bs : List ℕ) (c : ℕ) → bits (with-check bs c) ≡ data-bits bs ++ bits-of 36 c
+unfolding with-check
 bits-with bs c =
     let t = take (length bs - 5) bs in
     let x = getD bs (length bs - 5) 0 in
-    bits-append t (checkBytes x c) ∙ ap (λ (v : List Bool). bits t ++ v) (bits-field x c)
-    ∙ sym (append-assoc (bits t) (bitsOf 4 x) (bitsOf 36 c))
+    bits-append t (check-bytes x c) ∙ ap (λ (v : List Bool). bits t ++ v) (bits-field x c)
+    ∙ sym (append-assoc (bits t) (bits-of 4 x) (bits-of 36 c))
 
 left-check : (d : List Bool) (c : ℕ)
-    → number (remainder polynomial (d ++ bitsOf 36 c)) ≡ (c % 2 ^ 36) ⊕ number (remainder polynomial (d ++ bitsOf 36 0))
+    → number (remainder polynomial (d ++ bits-of 36 c)) ≡ (c % 2 ^ 36) ⊕ number (remainder polynomial (d ++ bits-of 36 0))
 left-check d c =
-    subst (λ (p : List Bool). number (remainder p (d ++ bitsOf 36 c)) ≡ (c % 2 ^ 36) ⊕ number (remainder p (d ++ bitsOf 36 0)))
+    subst (λ (p : List Bool). number (remainder p (d ++ bits-of 36 c)) ≡ (c % 2 ^ 36) ⊕ number (remainder p (d ++ bits-of 36 0)))
     (sym polynomial-low)
-    (left-ending low d (bitsOf 36 c) (length-bitsOf 36 c ∙ sym length-low)
-    ∙ ap₂ (λ (x n : ℕ). x ⊕ number (remainder (true ∷ low) (d ++ replicate n false))) (number-bitsOf 36 c) length-low)
+    (left-ending low d (bits-of 36 c) (length-bits-of 36 c ∙ sym length-low)
+    ∙ ap₂ (λ (x n : ℕ). x ⊕ number (remainder (true ∷ low) (d ++ replicate n false))) (number-bits-of 36 c) length-low)
 
-left-with : (bs : List ℕ) (c : ℕ) → number (remainder polynomial (bits (withCheck bs c))) ≡ (c % 2 ^ 36) ⊕ checkOf bs
-unfolding checkOf
+left-with : (bs : List ℕ) (c : ℕ) → number (remainder polynomial (bits (with-check bs c))) ≡ (c % 2 ^ 36) ⊕ check-of bs
+unfolding check-of
 left-with bs c =
-    ap (λ (u : List Bool). number (remainder polynomial u)) (bits-with bs c) ∙ left-check (dataBits bs) c
+    ap (λ (u : List Bool). number (remainder polynomial u)) (bits-with bs c) ∙ left-check (data-bits bs) c
     ∙ ap (λ (u : List Bool). (c % 2 ^ 36) ⊕ number (remainder polynomial u)) (sym (bits-with bs 0))
 
-check-lt : (bs : List ℕ) → checkOf bs < 2 ^ 36
-unfolding checkOf
+check-lt : (bs : List ℕ) → check-of bs < 2 ^ 36
+unfolding check-of
 check-lt bs =
-    let u = bits (withCheck bs 0) in
+    let u = bits (with-check bs 0) in
     let l : length (remainder polynomial u) ≡ 36 = ap (λ (p : List Bool). length (remainder p u)) polynomial-low ∙ length-remainder low u ∙ length-low in
     subst (λ (n : ℕ). number (remainder polynomial u) < 2 ^ n) l (number-lt (remainder polynomial u))
 
 -- ---- a check field written twice
 
-length-with : (bs : List ℕ) (c : ℕ) → 5 ≤ length bs → length (withCheck bs c) ≡ length bs
-unfolding withCheck
+length-with : (bs : List ℕ) (c : ℕ) → 5 ≤ length bs → length (with-check bs c) ≡ length bs
+unfolding with-check
 length-with bs c h =
-    length-append (take (length bs - 5) bs) (checkBytes (getD bs (length bs - 5) 0) c)
+    length-append (take (length bs - 5) bs) (check-bytes (getD bs (length bs - 5) 0) c)
     ∙ ap (λ (n : ℕ). n + 5) (length-take-le (length bs - 5) bs (omega arith)) ∙ omega arith
 
-take-with : (bs : List ℕ) (c : ℕ) → 5 ≤ length bs → take (length bs - 5) (withCheck bs c) ≡ take (length bs - 5) bs
-unfolding withCheck
+take-with : (bs : List ℕ) (c : ℕ) → 5 ≤ length bs → take (length bs - 5) (with-check bs c) ≡ take (length bs - 5) bs
+unfolding with-check
 take-with bs c h =
-    take-at (take (length bs - 5) bs) (checkBytes (getD bs (length bs - 5) 0) c) (length bs - 5) (length-take-le (length bs - 5) bs (omega arith))
+    take-at (take (length bs - 5) bs) (check-bytes (getD bs (length bs - 5) 0) c) (length bs - 5) (length-take-le (length bs - 5) bs (omega arith))
 
-getD-with : (bs : List ℕ) (c : ℕ) → 5 ≤ length bs → getD (withCheck bs c) (length bs - 5) 0 ≡ getD bs (length bs - 5) 0 % 16 + c % 16 * 16
-unfolding withCheck
+getD-with : (bs : List ℕ) (c : ℕ) → 5 ≤ length bs → getD (with-check bs c) (length bs - 5) 0 ≡ getD bs (length bs - 5) 0 % 16 + c % 16 * 16
+unfolding with-check
 getD-with bs c h =
     getD-at (take (length bs - 5) bs) (getD bs (length bs - 5) 0 % 16 + c % 16 * 16)
     (c / 2 ^ 4 % 256 ∷ c / 2 ^ 12 % 256 ∷ c / 2 ^ 20 % 256 ∷ c / 2 ^ 28 % 256 ∷ []) 0 (length bs - 5)
@@ -154,24 +154,24 @@ low-four : (x c : ℕ) → (x % 16 + c % 16 * 16) % 16 ≡ x % 16
 low-four x c = omega arith
 
 -- the second takes the first's place
-pub with-twice : (bs : List ℕ) (c d : ℕ) → 5 ≤ length bs → withCheck (withCheck bs c) d ≡ withCheck bs d
-unfolding withCheck
+pub with-twice : (bs : List ℕ) (c d : ℕ) → 5 ≤ length bs → with-check (with-check bs c) d ≡ with-check bs d
+unfolding with-check
 with-twice bs c d h =
-    ap (λ (n : ℕ). take (n - 5) (withCheck bs c) ++ checkBytes (getD (withCheck bs c) (n - 5) 0) d) (length-with bs c h)
-    ∙ ap₂ (λ (t : List ℕ) (x : ℕ). t ++ checkBytes x d) (take-with bs c h) (getD-with bs c h)
+    ap (λ (n : ℕ). take (n - 5) (with-check bs c) ++ check-bytes (getD (with-check bs c) (n - 5) 0) d) (length-with bs c h)
+    ∙ ap₂ (λ (t : List ℕ) (x : ℕ). t ++ check-bytes x d) (take-with bs c h) (getD-with bs c h)
     ∙ ap
     (λ (x : ℕ). take (length bs - 5) bs ++ ((x + d % 16 * 16) ∷ d / 2 ^ 4 % 256 ∷ d / 2 ^ 12 % 256 ∷ d / 2 ^ 20 % 256 ∷ d / 2 ^ 28 % 256 ∷ []))
     (low-four (getD bs (length bs - 5) 0) c)
 
 -- ---- what sealing does
 
-pub sealed-long : (bs : List ℕ) → 5 ≤ length bs → sealed bs ≡ withCheck bs (checkOf bs)
+pub sealed-long : (bs : List ℕ) → 5 ≤ length bs → sealed bs ≡ with-check bs (check-of bs)
 unfolding sealed
-sealed-long bs h = ap (λ (t : Bool). cond t (withCheck bs (checkOf bs)) bs) (le-leb 5 (length bs) h)
+sealed-long bs h = ap (λ (t : Bool). cond t (with-check bs (check-of bs)) bs) (le-leb 5 (length bs) h)
 
 pub sealed-short : (bs : List ℕ) → length bs < 5 → sealed bs ≡ bs
 unfolding sealed
-sealed-short bs h = ap (λ (t : Bool). cond t (withCheck bs (checkOf bs)) bs) (lt-leb 5 (length bs) h)
+sealed-short bs h = ap (λ (t : Bool). cond t (with-check bs (check-of bs)) bs) (lt-leb 5 (length bs) h)
 
 -- what holds of a short list and of a long one holds
 by-length : (P : Type 0) (bs : List ℕ) → (5 ≤ length bs → P) → (length bs < 5 → P) → P
@@ -185,40 +185,40 @@ by-length P bs long short = go (leb 5 (length bs)) refl
 pub length-sealed : (bs : List ℕ) → length (sealed bs) ≡ length bs
 length-sealed bs =
     by-length (length (sealed bs) ≡ length bs) bs
-    (λ h. ap length (sealed-long bs h) ∙ length-with bs (checkOf bs) h)
+    (λ h. ap length (sealed-long bs h) ∙ length-with bs (check-of bs) h)
     (λ h. ap length (sealed-short bs h))
 
 -- the bytes before the last five stay
 pub sealed-keeps-bytes : (bs : List ℕ) → take (length bs - 5) (sealed bs) ≡ take (length bs - 5) bs
 sealed-keeps-bytes bs =
     by-length (take (length bs - 5) (sealed bs) ≡ take (length bs - 5) bs) bs
-    (λ h. ap (take (length bs - 5)) (sealed-long bs h) ∙ take-with bs (checkOf bs) h)
+    (λ h. ap (take (length bs - 5)) (sealed-long bs h) ∙ take-with bs (check-of bs) h)
     (λ h. ap (take (length bs - 5)) (sealed-short bs h))
 
 -- and so does the low half of the first of those five
 pub sealed-keeps-half : (bs : List ℕ) → getD (sealed bs) (length bs - 5) 0 % 16 ≡ getD bs (length bs - 5) 0 % 16
 sealed-keeps-half bs =
     by-length (getD (sealed bs) (length bs - 5) 0 % 16 ≡ getD bs (length bs - 5) 0 % 16) bs
-    (λ h. ap (λ (s : List ℕ). getD s (length bs - 5) 0 % 16) (sealed-long bs h) ∙ ap (λ (x : ℕ). x % 16) (getD-with bs (checkOf bs) h)
-    ∙ low-four (getD bs (length bs - 5) 0) (checkOf bs))
+    (λ h. ap (λ (s : List ℕ). getD s (length bs - 5) 0 % 16) (sealed-long bs h) ∙ ap (λ (x : ℕ). x % 16) (getD-with bs (check-of bs) h)
+    ∙ low-four (getD bs (length bs - 5) 0) (check-of bs))
     (λ h. ap (λ (s : List ℕ). getD s (length bs - 5) 0 % 16) (sealed-short bs h))
 
-length-data : (bs : List ℕ) → 5 ≤ length bs → length (dataBits bs) ≡ length (bits bs) - 36
+length-data : (bs : List ℕ) → 5 ≤ length bs → length (data-bits bs) ≡ length (bits bs) - 36
 length-data bs h =
     let t = take (length bs - 5) bs in
     let l : length t ≡ length bs - 5 = length-take-le (length bs - 5) bs (omega arith) in
-    length-append (bits t) (bitsOf 4 (getD bs (length bs - 5) 0)) ∙ omega (arith, length-bits t, length-bits bs)
+    length-append (bits t) (bits-of 4 (getD bs (length bs - 5) 0)) ∙ omega (arith, length-bits t, length-bits bs)
 
 -- a unit's bits are those before the field, and 36 more
 bits-data : (bs : List ℕ) → 5 ≤ length bs
-    → bits bs ≡ dataBits bs ++ (bitsOf 4 (getD bs (length bs - 5) 0 / 2 / 2 / 2 / 2) ++ bits (drop (suc (length bs - 5)) bs))
+    → bits bs ≡ data-bits bs ++ (bits-of 4 (getD bs (length bs - 5) 0 / 2 / 2 / 2 / 2) ++ bits (drop (suc (length bs - 5)) bs))
 unfolding bits
 bits-data bs h =
     let n = length bs - 5 in
     let x = getD bs n 0 in
     ap bits (sym (take-append-drop n bs)) ∙ bits-append (take n bs) (drop n bs)
     ∙ ap (λ (s : List ℕ). bits (take n bs) ++ bits s) (drop-cons bs n 0 (omega arith))
-    ∙ sym (append-assoc (bits (take n bs)) (bitsOf 4 x) (bitsOf 4 (x / 2 / 2 / 2 / 2) ++ bits (drop (suc n) bs)))
+    ∙ sym (append-assoc (bits (take n bs)) (bits-of 4 x) (bits-of 4 (x / 2 / 2 / 2 / 2) ++ bits (drop (suc n) bs)))
 
 -- every bit but the last 36 stays
 pub sealed-keeps-bits : (bs : List ℕ) → take (length (bits bs) - 36) (bits (sealed bs)) ≡ take (length (bits bs) - 36) (bits bs)
@@ -228,9 +228,9 @@ sealed-keeps-bits bs =
     by-length (take n (bits (sealed bs)) ≡ take n (bits bs)) bs
     (λ h.
     ap (λ (s : List ℕ). take n (bits s)) (sealed-long bs h)
-    ∙ ap (take n) (bits-with bs (checkOf bs)) ∙ take-at (dataBits bs) (bitsOf 36 (checkOf bs)) n (length-data bs h)
+    ∙ ap (take n) (bits-with bs (check-of bs)) ∙ take-at (data-bits bs) (bits-of 36 (check-of bs)) n (length-data bs h)
     ∙ sym (ap (take n) (bits-data bs h)
-    ∙ take-at (dataBits bs) (bitsOf 4 (x / 2 / 2 / 2 / 2) ++ bits (drop (suc (length bs - 5)) bs)) n (length-data bs h)))
+    ∙ take-at (data-bits bs) (bits-of 4 (x / 2 / 2 / 2 / 2) ++ bits (drop (suc (length bs - 5)) bs)) n (length-data bs h)))
     (λ h. ap (λ (s : List ℕ). take n (bits s)) (sealed-short bs h))
 
 -- bytes stay bytes
@@ -245,7 +245,7 @@ bytes-take (suc n) [] h i = omega arith
 bytes-take (suc n) (x ∷ xs) h zero = h 0
 bytes-take (suc n) (x ∷ xs) h (suc i) = bytes-take n xs (λ j. h (suc j)) i
 
-bytes-field : (x c : ℕ) → Bytes (checkBytes x c)
+bytes-field : (x c : ℕ) → Bytes (check-bytes x c)
 bytes-field x c zero = omega arith
 bytes-field x c (suc zero) = omega arith
 bytes-field x c (suc (suc zero)) = omega arith
@@ -254,31 +254,31 @@ bytes-field x c (suc (suc (suc (suc zero)))) = omega arith
 bytes-field x c (suc (suc (suc (suc (suc i))))) = omega arith
 
 pub sealed-bytes : (bs : List ℕ) → Bytes bs → Bytes (sealed bs)
-unfolding withCheck
+unfolding with-check
 sealed-bytes bs b =
     let n = length bs - 5 in
     by-length (Bytes (sealed bs)) bs
-    (λ h. subst Bytes (sym (sealed-long bs h)) (bytes-append (take n bs) (checkBytes (getD bs n 0) (checkOf bs)) (bytes-take n bs b) (bytes-field (getD bs n 0) (checkOf bs))))
+    (λ h. subst Bytes (sym (sealed-long bs h)) (bytes-append (take n bs) (check-bytes (getD bs n 0) (check-of bs)) (bytes-take n bs b) (bytes-field (getD bs n 0) (check-of bs))))
     (λ h. subst Bytes (sym (sealed-short bs h)) b)
 
 -- sealing what is sealed changes nothing
 pub sealed-twice : (bs : List ℕ) → sealed (sealed bs) ≡ sealed bs
-unfolding checkOf
+unfolding check-of
 sealed-twice bs =
     by-length (sealed (sealed bs) ≡ sealed bs) bs
     (λ h.
-    let c = checkOf bs in
-    let s = withCheck bs c in
+    let c = check-of bs in
+    let s = with-check bs c in
     let l : 5 ≤ length s = omega (arith, length-with bs c h) in
-    let e : checkOf s ≡ c = ap (λ (z : List ℕ). number (remainder polynomial (bits z))) (with-twice bs c 0 h) in
-    ap sealed (sealed-long bs h) ∙ sealed-long s l ∙ ap (withCheck s) e ∙ with-twice bs c c h ∙ sym (sealed-long bs h))
+    let e : check-of s ≡ c = ap (λ (z : List ℕ). number (remainder polynomial (bits z))) (with-twice bs c 0 h) in
+    ap sealed (sealed-long bs h) ∙ sealed-long s l ∙ ap (with-check s) e ∙ with-twice bs c c h ∙ sym (sealed-long bs h))
     (λ h. ap sealed (sealed-short bs h))
 
 -- a sealed unit is right
 pub sealed-Right : (bs : List ℕ) → 5 ≤ length bs → Right (sealed bs)
 unfolding Right
 sealed-Right bs h =
-    let c = checkOf bs in
+    let c = check-of bs in
     decides (bits (sealed bs)) .0
     (ap (λ (s : List ℕ). number (remainder polynomial (bits s))) (sealed-long bs h) ∙ left-with bs c
     ∙ ap (λ (x : ℕ). x ⊕ c) (mod-eq-of-lt (check-lt bs)) ∙ xor-self c)
@@ -287,8 +287,8 @@ pub sealed-right : (bs : List ℕ) → 5 ≤ length bs → right (sealed bs) ≡
 sealed-right bs h = right-Right (sealed bs) .1 (sealed-Right bs h)
 
 -- and no other check field would make it so
-pub no-other-check : (bs : List ℕ) (c : ℕ) → c < 2 ^ 36 → Right (withCheck bs c) → c ≡ checkOf bs
+pub no-other-check : (bs : List ℕ) (c : ℕ) → c < 2 ^ 36 → Right (with-check bs c) → c ≡ check-of bs
 unfolding Right
 no-other-check bs c h r =
     sym (mod-eq-of-lt h)
-    ∙ same-of-zero (c % 2 ^ 36) (checkOf bs) (sym (left-with bs c) ∙ decides (bits (withCheck bs c)) .1 r)
+    ∙ same-of-zero (c % 2 ^ 36) (check-of bs) (sym (left-with bs c) ∙ decides (bits (with-check bs c)) .1 r)

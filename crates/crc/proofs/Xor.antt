@@ -10,7 +10,7 @@ use lib.Arith.{bin-ind, digits-mod}
 use lib.Pow.{pow-pos}
 use lib.Bits.{bitXor, differ, xor-step, xor-zero-r, xor-comm, xor-self, xor-shr, xor-block}
 use Rattle.crc.specs.Poly.{xor}
-use Rattle.crc.specs.Unit.{odd, isOne}
+use Rattle.crc.specs.Unit.{odd, is-one}
 use Rattle.crc.specs.Register.{digit}
 
 infixl 60 _⊕_
@@ -74,23 +74,23 @@ xor-shl a b k =
     ∙ ap₂ bitXor (add-zero (a * 2 ^ k)) (add-zero (b * 2 ^ k))
 
 -- the lowest bit
-isOne-differ : (x y : ℕ) → x < 2 → y < 2 → isOne (differ x y) ≡ xor (isOne x) (isOne y)
-isOne-differ zero y hx hy = refl
-isOne-differ (suc zero) zero hx hy = refl
-isOne-differ (suc zero) (suc zero) hx hy = refl
-isOne-differ (suc zero) (suc (suc y)) hx hy = absurd (omega arith)
-isOne-differ (suc (suc x)) y hx hy = absurd (omega arith)
+is-one-differ : (x y : ℕ) → x < 2 → y < 2 → is-one (differ x y) ≡ xor (is-one x) (is-one y)
+is-one-differ zero y hx hy = refl
+is-one-differ (suc zero) zero hx hy = refl
+is-one-differ (suc zero) (suc zero) hx hy = refl
+is-one-differ (suc zero) (suc (suc y)) hx hy = absurd (omega arith)
+is-one-differ (suc (suc x)) y hx hy = absurd (omega arith)
 
 pub odd-xor : (a b : ℕ) → odd (a ⊕ b) ≡ xor (odd a) (odd b)
-odd-xor a b = ap isOne (xor-low a b) ∙ isOne-differ (a % 2) (b % 2) (mod-lt a two-pos) (mod-lt b two-pos)
+odd-xor a b = ap is-one (xor-low a b) ∙ is-one-differ (a % 2) (b % 2) (mod-lt a two-pos) (mod-lt b two-pos)
 
-digit-isOne : (x : ℕ) → x < 2 → digit (isOne x) ≡ x
-digit-isOne zero h = refl
-digit-isOne (suc zero) h = refl
-digit-isOne (suc (suc x)) h = omega arith
+digit-is-one : (x : ℕ) → x < 2 → digit (is-one x) ≡ x
+digit-is-one zero h = refl
+digit-is-one (suc zero) h = refl
+digit-is-one (suc (suc x)) h = omega arith
 
 pub digit-odd : (n : ℕ) → digit (odd n) ≡ n % 2
-digit-odd n = digit-isOne (n % 2) (mod-lt n two-pos)
+digit-odd n = digit-is-one (n % 2) (mod-lt n two-pos)
 
 pub digit-lt : (b : Bool) → digit b < 2
 digit-lt true = omega arith

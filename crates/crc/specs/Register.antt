@@ -33,13 +33,13 @@ abbrev pub generator : ℕ
 generator = 0xe_40b7_0932
 
 -- the remainder after one more byte: eight places, and the byte's bits come in at the lowest powers
-abbrev pub takeByte : ℕ → ℕ → ℕ
-takeByte r b = bitXor (places generator 8 r) (b % 2 ^ 8 * 2 ^ 28)
+abbrev pub take-byte : ℕ → ℕ → ℕ
+take-byte r b = bitXor (places generator 8 r) (b % 2 ^ 8 * 2 ^ 28)
 
 -- a remainder continued over more bytes
 abbrev pub continued : ℕ → List ℕ → ℕ
 continued r [] = r
-continued r (b ∷ bs) = continued (takeByte r b) bs
+continued r (b ∷ bs) = continued (take-byte r b) bs
 
 -- f at i, i + 1, .., n of them
 abbrev pub tabulate : (ℕ → ℕ) → ℕ → ℕ → List ℕ

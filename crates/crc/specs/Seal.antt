@@ -11,17 +11,17 @@ use Rattle.crc.specs.Unit.{bits, polynomial}
 use Rattle.crc.specs.Register.{number}
 
 -- the last five bytes with the check c; x is the byte that the check shares with other fields
-abbrev pub checkBytes : ℕ → ℕ → List ℕ
-checkBytes x c =
+abbrev pub check-bytes : ℕ → ℕ → List ℕ
+check-bytes x c =
     (x % 16 + c % 16 * 16) ∷ (c / 2 ^ 4 % 256) ∷ (c / 2 ^ 12 % 256) ∷ (c / 2 ^ 20 % 256) ∷ (c / 2 ^ 28 % 256) ∷ []
 
-unfoldable pub withCheck : List ℕ → ℕ → List ℕ
-withCheck bs c = take (length bs - 5) bs ++ checkBytes (getD bs (length bs - 5) 0) c
+unfoldable pub with-check : List ℕ → ℕ → List ℕ
+with-check bs c = take (length bs - 5) bs ++ check-bytes (getD bs (length bs - 5) 0) c
 
 -- the check of a unit: what the division leaves of it with zeros in the check field
-unfoldable pub checkOf : List ℕ → ℕ
-checkOf bs = number (remainder polynomial (bits (withCheck bs 0)))
+unfoldable pub check-of : List ℕ → ℕ
+check-of bs = number (remainder polynomial (bits (with-check bs 0)))
 
 -- the unit with its check; a list too short to hold one stays as it is
 unfoldable pub sealed : List ℕ → List ℕ
-sealed bs = cond (leb 5 (length bs)) (withCheck bs (checkOf bs)) bs
+sealed bs = cond (leb 5 (length bs)) (with-check bs (check-of bs)) bs

@@ -26,37 +26,37 @@ unfoldable pub polynomial : List Bool
 polynomial = coefficients 36 powers
 
 -- the k low bits of a number, bit 0 first
-abbrev pub isOne : ℕ → Bool
-isOne zero = false
-isOne (suc n) = true
+abbrev pub is-one : ℕ → Bool
+is-one zero = false
+is-one (suc n) = true
 
 abbrev pub odd : ℕ → Bool
-odd n = isOne (n % 2)
+odd n = is-one (n % 2)
 
-abbrev pub bitsOf : ℕ → ℕ → List Bool
-bitsOf zero n = []
-bitsOf (suc k) n = odd n ∷ bitsOf k (n / 2)
+abbrev pub bits-of : ℕ → ℕ → List Bool
+bits-of zero n = []
+bits-of (suc k) n = odd n ∷ bits-of k (n / 2)
 
 -- the bits of a unit: byte 0 comes first, and bit 0 of a byte
 unfoldable pub bits : List ℕ → List Bool
 bits [] = []
-bits (b ∷ bs) = bitsOf 8 b ++ bits bs
+bits (b ∷ bs) = bits-of 8 b ++ bits bs
 
 -- a unit is right exactly when the polynomial divides it
 unfoldable pub Right : List ℕ → Type 0
 Right bs = Divides polynomial (bits bs)
 
 -- the same as a test: the division leaves nothing. `right-Right` of proofs/Divides.antt says that it is the same.
-abbrev pub allZero : List Bool → Bool
-allZero [] = true
-allZero (b ∷ bs) = not b && allZero bs
+abbrev pub all-zero : List Bool → Bool
+all-zero [] = true
+all-zero (b ∷ bs) = not b && all-zero bs
 
 unfoldable pub right : List ℕ → Bool
-right bs = allZero (remainder polynomial (bits bs))
+right bs = all-zero (remainder polynomial (bits bs))
 
 -- the flit that starts at a place of a slice lies inside it and is right alone
-unfoldable pub flitRight : List ℕ → ℕ → Bool
-flitRight s at = leb (at + 64) (length s) && right (take 64 (drop at s))
+unfoldable pub flit-right : List ℕ → ℕ → Bool
+flit-right s at = leb (at + 64) (length s) && right (take 64 (drop at s))
 
 -- each element is a byte; past the end `getD` answers 0
 abbrev pub Bytes : List ℕ → Type 0

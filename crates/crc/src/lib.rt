@@ -3,17 +3,17 @@
 // by stores in each function that names it, so one function names the table, and the others are handed it: who checks many units lays it
 // down once and calls the functions that end in `_with`.
 ghost use mathlib.Core.Path.{_≡_};
-ghost use Rattle.crc.specs.Poly.{remainder as remainderOf};
-ghost use Rattle.crc.specs.Unit.{bits, polynomial, right as rightOf, flitRight};
-ghost use Rattle.crc.specs.Register.{number, table, takeByte, continued as continuedOf};
-ghost use Rattle.crc.specs.Seal.{withCheck, sealed};
+ghost use Rattle.crc.specs.Poly.{remainder as remainder-of};
+ghost use Rattle.crc.specs.Unit.{bits, polynomial, right as right-of, flit-right as flit-right-of};
+ghost use Rattle.crc.specs.Register.{number, table, take-byte, continued as continuedOf};
+ghost use Rattle.crc.specs.Seal.{with-check, sealed};
 ghost use mathlib.Core.List.{_++_};
 ghost use Prim.Native.Nat.{_≤_};
 ghost use lib.ListN.{length};
 
 // Whether a unit is right.
 pub fn right(unit: &[u8]) -> bool
-    ensures { λ r. ⌜ r ≡ rightOf (now (unit .entry)) ⌝ }
+    ensures { λ r. ⌜ r ≡ right-of (now (unit .entry)) ⌝ }
 {
     let t = laid();
     right_with(&t, unit)
@@ -21,7 +21,7 @@ pub fn right(unit: &[u8]) -> bool
 
 pub fn right_with(t: &[u64; 256], unit: &[u8]) -> bool
     requires { ⌜ now t ≡ table ⌝ }
-    ensures { λ r. ⌜ r ≡ rightOf (now (unit .entry)) ⌝ }
+    ensures { λ r. ⌜ r ≡ right-of (now (unit .entry)) ⌝ }
 {
     let left = continued(t, 0, unit);
     left == 0
@@ -30,7 +30,7 @@ pub fn right_with(t: &[u64; 256], unit: &[u8]) -> bool
 // Whether a unit is right whose data lies in one place and its closing flit in another.
 pub fn right_after(t: &[u64; 256], held: &[u8], flit: &[u8]) -> bool
     requires { ⌜ now t ≡ table ⌝ }
-    ensures { λ r. ⌜ r ≡ rightOf (now (held .entry) ++ now (flit .entry)) ⌝ }
+    ensures { λ r. ⌜ r ≡ right-of (now (held .entry) ++ now (flit .entry)) ⌝ }
 {
     let so_far = continued(t, 0, held);
     let left = continued(t, so_far, flit);
@@ -39,7 +39,7 @@ pub fn right_after(t: &[u64; 256], held: &[u8], flit: &[u8]) -> bool
 
 // Whether the flit that starts at a place of a unit or a store is right alone; false where it is not inside.
 pub fn flit_right(s: &[u8], at: usize) -> bool
-    ensures { λ r. ⌜ r ≡ flitRight (now (s .entry)) at ⌝ }
+    ensures { λ r. ⌜ r ≡ flit-right-of (now (s .entry)) at ⌝ }
 {
     let t = laid();
     flit_right_with(&t, s, at)
@@ -47,7 +47,7 @@ pub fn flit_right(s: &[u8], at: usize) -> bool
 
 pub fn flit_right_with(t: &[u64; 256], s: &[u8], at: usize) -> bool
     requires { ⌜ now t ≡ table ⌝ }
-    ensures { λ r. ⌜ r ≡ flitRight (now (s .entry)) at ⌝ }
+    ensures { λ r. ⌜ r ≡ flit-right-of (now (s .entry)) at ⌝ }
 {
     if s.len() < 64 {
         return false;
@@ -81,7 +81,7 @@ pub fn seal_with(t: &[u64; 256], unit: &mut [u8])
 
 // The remainder of a unit, or of the first part of one.
 pub fn remainder(unit: &[u8]) -> u64
-    ensures { λ r. ⌜ r ≡ number (remainderOf polynomial (bits (now (unit .entry)))) ⌝ }
+    ensures { λ r. ⌜ r ≡ number (remainder-of polynomial (bits (now (unit .entry)))) ⌝ }
 {
     let t = laid();
     continued(&t, 0, unit)
@@ -104,7 +104,7 @@ pub fn continued(t: &[u64; 256], r: u64, part: &[u8]) -> u64
 // The remainder after one more byte.
 fn step(t: &[u64; 256], r: u64, b: u8) -> u64
     requires { ⌜ now t ≡ table ⌝ }
-    ensures { λ s. ⌜ s ≡ takeByte r b ⌝ }
+    ensures { λ s. ⌜ s ≡ take-byte r b ⌝ }
 {
     let i = (r & 255) as usize;
     (r >> 8) ^ t[i] ^ ((b as u64) << 28)
@@ -113,7 +113,7 @@ fn step(t: &[u64; 256], r: u64, b: u8) -> u64
 // Writes a check at a unit's last 36 bits. The byte where it begins keeps its low half.
 fn put_check(unit: &mut [u8], check: u64)
     requires { ⌜ 5 ≤ length (now unit) ⌝ }
-    ensures { λ _. ⌜ now (unit .exit) ≡ withCheck (now (unit .entry)) check ⌝ }
+    ensures { λ _. ⌜ now (unit .exit) ≡ with-check (now (unit .entry)) check ⌝ }
 {
     let a = unit.len() - 5;
     let b = a + 1;

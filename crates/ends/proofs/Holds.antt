@@ -3,22 +3,15 @@
 use mathlib.Core.Bool.{Bool, true, not, _&&_, _||_}
 use mathlib.Core.List.{List}
 use mathlib.Core.Path.{_≡_}
-use Prim.Native.Nat.{ℕ, _+_, _^_, _<_, _≤_}
-use native.Mathlib.Omega.{arith}
+use Prim.Native.Nat.{ℕ, _≤_}
 use borrow.Author.Tests.{le-leb}
 use lib.Dec.{ltb, leb, eqb}
-use Rattle.numbers.specs.Numbers.{after, difference}
 use Rattle.ends.specs.Choice.{pick}
 use Rattle.ends.specs.Update.{with-untold, with-pending}
 use Rattle.ends.specs.Ring.{walked}
 use Rattle.ends.specs.Refusals.{cursor-at, sent-at, acknowledged-at, counts-sound, numbers-sound, units-sound, sound}
 use Rattle.ends.specs.declared.state.End.{End}
 use Rattle.ends.proofs.Tests.{and-l, and-r, and-true}
-
--- n flits further on, where that does not come round
-pub further : (a b n : ℕ) → difference 16 a b + n < 2 ^ 16 → difference 16 (after 16 a n) b ≡ difference 16 a b + n
-unfolding difference after
-further a b n h = omega arith
 
 -- the three parts of soundness
 pub sound-holds : (e : End) (store : List ℕ) → counts-sound e ≡ true → numbers-sound e ≡ true → units-sound e store ≡ true → sound e store ≡ true

@@ -2,7 +2,7 @@
 -- is inside that unit, and past its control flit on the next border. So between two borders lie whole units. Assumes nothing.
 use mathlib.Core.Bool.{Bool, true, false, _&&_}
 use mathlib.Core.List.{List}
-use mathlib.Core.Path.{_≡_, refl, sym, ap, _∙_, subst}
+use mathlib.Core.Path.{_≡_, refl, sym, ap, ap₂, _∙_, subst}
 use Prim.Native.Nat.{ℕ, zero, suc, _+_, _-_, _<_, _≤_}
 use native.Mathlib.Omega.{arith}
 use native.Mathlib.Nat.{add-suc, add-zero}
@@ -151,6 +151,12 @@ pub walk-step : (places first : ℕ) (w : Walk) (store : List ℕ) (n : ℕ)
     → walk places first w store (n + 1) ≡ passed (flit-at store (place places first n)) (walk places first w store n)
 unfolding walk
 walk-step places first w store n = rw add-one
+
+pub one-more : (places first : ℕ) (w₀ : Walk) (store : List ℕ) (n p : ℕ) (flit : List ℕ) (w r : Walk) → r ≡ passed flit w → flit ≡ flit-at store p
+    → p ≡ place places first n
+    → w ≡ walk places first w₀ store n
+    → r ≡ walk places first w₀ store (n + 1)
+one-more places first w₀ store n p flit w r h f k v = h ∙ ap₂ passed (f ∙ ap (flit-at store) k) v ∙ sym (walk-step places first w₀ store n)
 
 pub met-again : (W : ℕ → Walk) (n at : ℕ) (w met r : Walk) → r ≡ pick (eqb n at) w met → w ≡ W n → (at < n → met ≡ W at) → at < n + 1
     → r ≡ W at

@@ -2,7 +2,7 @@
 // length. Nothing asks a foreign caller what a function requires: one that takes a table is to be handed what `crc_lay` wrote.
 ghost use mathlib.Core.Path.{_≡_};
 ghost use mathlib.Core.List.{_++_};
-ghost use Rattle.crc.specs.Unit.{right, flitRight};
+ghost use Rattle.crc.specs.Unit.{right, flit-right};
 ghost use Rattle.crc.specs.Register.{table};
 ghost use Rattle.crc.specs.Seal.{sealed};
 
@@ -15,7 +15,7 @@ pub extern "C" fn crc_right(unit: &[u8]) -> bool
 
 #[no_mangle]
 pub extern "C" fn crc_flit_right(s: &[u8], at: usize) -> bool
-    ensures { λ r. ⌜ r ≡ flitRight (now (s .entry)) at ⌝ }
+    ensures { λ r. ⌜ r ≡ flit-right (now (s .entry)) at ⌝ }
 {
     crc::flit_right(s, at)
 }

@@ -7,7 +7,7 @@ use Prim.Native.Nat.{ℕ, suc, _≤_}
 use native.Mathlib.Omega.{arith}
 use Rattle.link.specs.Stream.{Bytes, Stream, owed, some, Flit, Item, part, control, idle, replay}
 use Rattle.link.specs.End.{Mode, run, wait, Sender, End}
-use Rattle.link.specs.Step.{accept, item, carried, isWait, Send, replays, alone, burst, idles, Discard, more, enough, Acked, keeps, passes, nacked, Receive, holds, delivers, repeats, idling, damaged, replayed, ahead-run, ahead-wait, discards, falls}
+use Rattle.link.specs.Step.{accept, item, carried, is-waiting, Send, replays, alone, burst, idles, Discard, more, enough, Acked, keeps, passes, nacked, Receive, holds, delivers, repeats, idling, damaged, replayed, ahead-run, ahead-wait, discards, falls}
 use Rattle.link.proofs.Num.{num-of-le}
 use Rattle.link.proofs.Chain.{Chain, after, final, final-append}
 use Rattle.link.proofs.Inv.{Inv}
@@ -85,7 +85,7 @@ carried-silent u j lo hi n ok st [] = (tt, tt)
 carried-silent u j lo hi n ok st (x ∷ xs) = (tt, carried-silent u j lo hi n ok st xs)
 
 quietly : (B : Bool → Type 0) (f g : Stream) (p p′ : End) (b : List Item) → p .r .mode ≡ run → Send B g f p b p′ → Silent b
-quietly B f g p p′ b h (replays x y m q) = (ap isWait h, (ap isWait h, tt))
+quietly B f g p p′ b h (replays x y m q) = (ap is-waiting h, (ap is-waiting h, tt))
 quietly B f g p p′ b h (alone x m q room n un) = (tt, tt)
 quietly B f g p p′ b h (burst i j b′ xs x y m q room some un len s) = (tt, carried-silent _ j _ _ _ b′ _ xs)
 quietly B f g p p′ b h (idles x m q un) = (tt, tt)

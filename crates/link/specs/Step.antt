@@ -25,10 +25,10 @@ pub record Room (C : ℕ) (f : Stream) (s : Sender) : Type 0 where
 
 -- ---- send: the sender after it, what is told, what goes on the wire
 
-abbrev pub isWait : Mode → Bool
-isWait run = false
-isWait wait = true
-isWait down = false
+abbrev pub is-waiting : Mode → Bool
+is-waiting run = false
+is-waiting wait = true
+is-waiting down = false
 
 abbrev pub tell : ℕ → Receiver → Receiver
 tell k r =
@@ -67,9 +67,9 @@ carried lo hi ok (x ∷ xs) l = item (part x) ok lo hi ∷ carried lo hi ok xs l
 pub data Send (Ok : Bool → Type 0) (f g : Stream) (e : End) : List Item → End → Type 0 where
   replays : {a b : Bool} → Ok a → Ok b → e .r .mode ≢ down → e .s .pending ≡ true
       → Send Ok f g e
-      (item (replay (isWait (e .r .mode)) (e .s .cursor) (owed f (e .s .cursor)) (some (owed f (e .s .cursor))) (num g (e .r .wanted))) a
+      (item (replay (is-waiting (e .r .mode)) (e .s .cursor) (owed f (e .s .cursor)) (some (owed f (e .s .cursor))) (num g (e .r .wanted))) a
       (e .s .oldest) (e .s .sent)
-      ∷ item (replay (isWait (e .r .mode)) (e .s .cursor) (owed f (e .s .cursor)) (some (owed f (e .s .cursor))) (num g (e .r .wanted))) b
+      ∷ item (replay (is-waiting (e .r .mode)) (e .s .cursor) (owed f (e .s .cursor)) (some (owed f (e .s .cursor))) (num g (e .r .wanted))) b
       (e .s .oldest) (e .s .sent)
       ∷ [])
       (record { s = told (e .s); r = tell (e .r .untold) (e .r) })

@@ -52,6 +52,16 @@ module _ (k : ℕ) where
       ∙ add-mod-right a (2 ^ k)
       ∙ mod-eq-of-lt ha
 
+  -- n flits further on, where that does not come round
+  pub further : (a b n : ℕ) → difference k a b + n < 2 ^ k → difference k (after k a n) b ≡ difference k a b + n
+  unfolding after difference
+  further a b n h =
+      let p : a + n + (2 ^ k - b) ≡ a + (2 ^ k - b) + n = omega arith in
+      mod-add-mod (a + n) (2 ^ k) (2 ^ k - b)
+      ∙ ap (λ (x : ℕ). x % 2 ^ k) p
+      ∙ sym (mod-add-mod (a + (2 ^ k - b)) (2 ^ k) n)
+      ∙ mod-eq-of-lt h
+
   -- from o to a and on to s is from o to s, where a comes first
   pub difference-split : (o a s : ℕ) → o < 2 ^ k → a < 2 ^ k → s < 2 ^ k → difference k a o ≤ difference k s o
       → difference k s a ≡ difference k s o - difference k a o

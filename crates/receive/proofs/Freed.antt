@@ -11,7 +11,7 @@ use borrow.Author.Tests.{ltb-true, ltb-false}
 use lib.Dec.{ltb}
 use lib.ListN.{length}
 use Rattle.numbers.specs.Numbers.{width, after, difference}
-use Rattle.numbers.proofs.Laws.{after-lt, difference-split}
+use Rattle.numbers.proofs.Laws.{after-lt, difference-split, further}
 use Rattle.ends.specs.Choice.{pick}
 use Rattle.ends.specs.Update.{with-acknowledged}
 use Rattle.ends.specs.Ring.{begun, place, walk, walked}
@@ -19,14 +19,13 @@ use Rattle.ends.specs.Refusals.{cursor-at, sent-at, acknowledged-at, store-is, 
 use Rattle.ends.specs.declared.state.End.{End}
 use Rattle.ends.specs.declared.walk.Walk.{Walk}
 use Rattle.ends.proofs.Facts.{stored-is, sound-is}
-use Rattle.ends.proofs.Holds.{further}
 use Rattle.ends.proofs.Places.{place-under}
 use Rattle.ends.proofs.Tests.{pick-either}
 use Rattle.ends.proofs.Walks.{fair, next-border, sound-before}
-use Rattle.answers.specs.Answers.{past-sent}
-use Rattle.receive.specs.Acknowledge.{freed-by, freed, sent-anew, acknowledged}
-use Rattle.receive.proofs.Borders.{border-within, border-found}
-use Rattle.receive.proofs.Covering.{Fitting}
+use Rattle.arrivals.specs.Arrivals.{past-sent}
+use Rattle.acknowledge.specs.Acknowledge.{freed-by, freed, sent-anew, acknowledged}
+use Rattle.acknowledge.proofs.Borders.{border-within, border-found}
+use Rattle.effects.proofs.Covering.{Fitting}
 use Rattle.receive.proofs.Shifted.{walk-on, border-last, begins}
 use Rattle.receive.proofs.Sides.{Sending, Sends}
 
@@ -141,7 +140,7 @@ module _ (e : End) (store : List ℕ) (n : ℕ) (fit : Fitting e) (its : store-i
       let k = stored-is e (length store) its in
       let c = sound-is e store ok .counts in
       let h : acknowledged-at e + n < 65536 = omega (arith, reach-sent, sent-held, c .held, k .most) in
-      let f = further (e .acknowledged .0) (e .oldest .0) n h in
+      let f = further width (e .acknowledged .0) (e .oldest .0) n h in
       nearer first-open (e .oldest .0) gone (fit .oldest) (omega (arith, f, gone-reach)) ∙ omega (arith, f)
 
   -- with a cursor d flits after the new oldest, on a border and not past sent

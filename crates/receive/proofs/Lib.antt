@@ -1,12 +1,8 @@
 pub mod Admission
-pub mod Borders
-pub mod Covering
 pub mod Freed
 pub mod Grounds
-pub mod Newest
 pub mod Shifted
 pub mod Sides
 pub mod Stays
-pub mod Steps
 pub mod Unchanged
 pub mod Written

@@ -12,7 +12,7 @@ use Rattle.ends.specs.Choice.{pick}
 use Rattle.ends.specs.Ring.{flit-at, place, begun, passed, walk}
 use Rattle.ends.specs.declared.walk.Walk.{Walk}
 use Rattle.ends.proofs.Places.{place-low, place-high}
-use Rattle.receive.specs.Acknowledge.{last-border}
+use Rattle.acknowledge.specs.Acknowledge.{last-border}
 
 pub place-place : (places first b n : ℕ) → first < places → b + n ≤ places
     → place places (place places first b) n ≡ place places first (b + n)

@@ -19,13 +19,15 @@ use Rattle.ends.specs.declared.state.Mode.the-variants.{Run, Wait, Down}
 use Rattle.ends.specs.declared.state.Verdict.{Verdict}
 use Rattle.ends.specs.declared.state.Verdict.the-variants.{Refused, Admitted}
 use Rattle.ends.proofs.Tests.{pick-either}
-use Rattle.answers.specs.Answers.{newly-covered, past-sent, checked, mode-answer}
+use Rattle.arrivals.specs.Arrivals.{newly-covered, past-sent, checked}
+use Rattle.answers.specs.Answers.{mode-answer}
 use Rattle.answers.specs.declared.Answer.{Answer}
 use Rattle.answers.specs.declared.Answer.the-variants as answer
 use Rattle.answers.proofs.Found.{Fits, found}
-use Rattle.receive.specs.Acknowledge.{sent-anew, acknowledged}
-use Rattle.receive.specs.Receive.{verdict, waiting, discarded, closed, delivered, informed, idled, replaced, ahead-in, end-after, answer-by, answer-to, receive}
-use Rattle.receive.proofs.Covering.{Fitting}
+use Rattle.acknowledge.specs.Acknowledge.{sent-anew, acknowledged}
+use Rattle.effects.specs.Effects.{waiting, discarded, closed, delivered, informed, idled, replaced, ahead-in, end-after}
+use Rattle.receive.specs.Receive.{verdict, answer-by, answer-to, receive}
+use Rattle.effects.proofs.Covering.{Fitting}
 use Rattle.receive.proofs.Freed.{acknowledged-sends, acknowledged-apart, anew-sends}
 use Rattle.receive.proofs.Grounds.{Grounds, grounds}
 use Rattle.receive.proofs.Sides.{Sends, Receives, sending, receiving, both-sound}

@@ -7,7 +7,8 @@ use Rattle.ends.specs.declared.state.End.{End}
 use Rattle.ends.specs.declared.state.Refusal.{Refusal}
 use Rattle.ends.specs.declared.state.Verdict.the-variants.{Refused}
 use Rattle.answers.specs.declared.Answer.the-variants as answer
-use Rattle.receive.specs.Receive.{verdict, end-after, hold-after, answer-to, receive, receive-hold}
+use Rattle.effects.specs.Effects.{end-after}
+use Rattle.receive.specs.Receive.{verdict, hold-after, answer-to, receive, receive-hold}
 
 module _ (e : End) (store hold flit : List ℕ) where
   pub answer-refused : (r : Refusal) → verdict e store (length hold) (length flit) ≡ Refused r

@@ -1,7 +1,4 @@
 // Receive takes one arriving flit (01, "Receive").
-mod acknowledge;
-mod moved;
-
 use answers::Answer;
 use ends::judge;
 use ends::state::End;
@@ -44,7 +41,7 @@ pub fn receive_with(t: &[u64; 256], e: End, store: &[u8], hold: &mut [u8], flit:
         Verdict::Admitted => {
             let fields = flits::read::fields(flit);
             let answer = answers::answer_flit(t, e, &hold[..], flit, fields);
-            let end = moved::end_after(answer, e, store, fields);
+            let end = effects::end_after(answer, e, store, fields);
             write_hold(answer, e, hold, flit);
             Received {
                 answer: answer,

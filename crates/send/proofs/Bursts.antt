@@ -11,10 +11,12 @@ use lib.ListN.{length, length-append}
 use Rattle.flits.specs.Flits.{idle-flit}
 use Rattle.ends.specs.Refusals.{cursor-at, store-is, sound, run-at-cursor}
 use Rattle.ends.specs.declared.state.End.{End}
-use Rattle.send.specs.Send.{carried, fallen, replay-sent, unit-sent, burst, burst-flits}
-use Rattle.send.proofs.Lengths.{length-idle, length-replays, length-unit}
-use Rattle.send.proofs.Cases.{burst-replays, burst-idle, burst-data, burst-control, flits-replays, flits-idle, flits-data, flits-control}
-use Rattle.send.proofs.Ready.{Ready, ready}
+use Rattle.units.specs.Units.{unit-sent}
+use Rattle.burst.specs.Burst.{carried, fallen, replay-sent, burst, burst-flits}
+use Rattle.units.proofs.Lengths.{length-unit}
+use Rattle.burst.proofs.Lengths.{length-idle, length-replays}
+use Rattle.burst.proofs.Cases.{burst-replays, burst-idle, burst-data, burst-control, flits-replays, flits-idle, flits-data, flits-control}
+use Rattle.burst.proofs.Ready.{Ready, ready}
 
 -- the bytes of so many flits, at most ten
 pub record Sized (bs : List ℕ) (flits : ℕ) : Type 0 where

@@ -14,8 +14,9 @@ use Rattle.flits.specs.declared.write.Replay.{Replay}
 use Rattle.flits.proofs.Laws.{length-bytes}
 use Rattle.ends.specs.Refusals.{cursor-at}
 use Rattle.ends.specs.declared.state.End.{End}
-use Rattle.send.specs.Send.{stored-flits, unit-sent, replay-sent}
-use Rattle.send.proofs.Lengths.{control-sent}
+use Rattle.units.specs.Units.{stored-flits, unit-sent}
+use Rattle.burst.specs.Burst.{replay-sent}
+use Rattle.units.proofs.Lengths.{control-sent}
 
 -- what ends in n bytes has at least n
 ends-in : (s : List ℕ) (n x : ℕ) → n ≤ length (s ++ bytes n x)

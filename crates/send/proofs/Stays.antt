@@ -9,6 +9,7 @@ use borrow.Author.Tests.{ltb-true, ltb-false}
 use lib.Dec.{ltb}
 use lib.ListN.{length}
 use Rattle.numbers.specs.Numbers.{width, after, difference}
+use Rattle.numbers.proofs.Laws.{further}
 use Rattle.ends.specs.Choice.{pick}
 use Rattle.ends.specs.Update.{with-untold, with-pending}
 use Rattle.ends.specs.Ring.{walked}
@@ -19,11 +20,12 @@ use Rattle.ends.specs.declared.state.Verdict.the-variants.{Refused, Admitted}
 use Rattle.ends.specs.declared.walk.Walk.{Walk}
 use Rattle.ends.proofs.Tests.{pick-either}
 use Rattle.ends.proofs.Facts.{stored-is, sound-is}
-use Rattle.ends.proofs.Holds.{further, sound-holds, counts-of, numbers-hold, units-hold, untold-sound, pending-sound}
+use Rattle.ends.proofs.Holds.{sound-holds, counts-of, numbers-hold, units-hold, untold-sound, pending-sound}
 use Rattle.ends.proofs.Walks.{next-border}
-use Rattle.send.specs.Send.{verdict, fallen, past-unit, moved, sent-by, send}
+use Rattle.burst.specs.Burst.{fallen, past-unit, moved}
+use Rattle.send.specs.Send.{verdict, sent-by, send}
 use Rattle.send.proofs.Cases.{admitted}
-use Rattle.send.proofs.Ready.{unit-whole}
+use Rattle.burst.proofs.Ready.{unit-whole}
 
 -- ---- what holds in each case holds of the end after it
 
@@ -63,7 +65,7 @@ module _ (e : End) (store : List ℕ) (ok : sound e store ≡ true) (most : e .c
   cursor-moved =
       let s = sound-is e store ok in
       let h : cursor-at e + (run + 1) < 65536 = omega (arith, inside, s .counts .held) in
-      further (e .cursor .0) (e .oldest .0) (run + 1) h
+      further width (e .cursor .0) (e .oldest .0) (run + 1) h
 
   sent-moved : Further e (cursor-at e + (run + 1)) (past-unit e run .sent .0)
   sent-moved =

@@ -1,6 +1,4 @@
 // Send writes what goes on the wire next (01, "Send").
-mod burst;
-
 use ends::judge;
 use ends::state::End;
 use ends::state::Refusal;

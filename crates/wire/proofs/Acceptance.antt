@@ -22,7 +22,8 @@ use Rattle.ends.specs.declared.state.Mode.the-variants.{Run, Wait, Down}
 use Rattle.ends.specs.declared.state.Verdict.{Verdict}
 use Rattle.ends.proofs.Tests.{pick-false, pick-either}
 use Rattle.accept.specs.Accept as accept
-use Rattle.answers.specs.Answers.{holds, damaged, skips, newly-covered, past-sent, behind, half, checked, replay-answer, plain-answer, run-answer, wait-answer, mode-answer, refusal-number}
+use Rattle.arrivals.specs.Arrivals.{holds, damaged, skips, newly-covered, past-sent, behind, checked}
+use Rattle.answers.specs.Answers.{half, replay-answer, plain-answer, run-answer, wait-answer, mode-answer, refusal-number}
 use Rattle.answers.specs.declared.Answer.{Answer}
 use Rattle.answers.specs.declared.Answer.the-variants as answer
 use Rattle.receive.specs.Receive as receive

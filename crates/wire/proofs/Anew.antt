@@ -20,11 +20,13 @@ use Rattle.ends.specs.declared.state.End.{End as KeptEnd}
 use Rattle.ends.specs.declared.state.Mode.{Mode as KeptMode}
 use Rattle.ends.specs.declared.state.Mode.the-variants.{Run, Wait}
 use Rattle.ends.proofs.Tests.{pick-true, pick-false}
-use Rattle.answers.specs.Answers.{behind, newly-covered, past-sent, half, replay-answer}
+use Rattle.arrivals.specs.Arrivals.{behind, newly-covered, past-sent}
+use Rattle.answers.specs.Answers.{half, replay-answer}
 use Rattle.answers.specs.declared.Answer.{Answer}
 use Rattle.answers.specs.declared.Answer.the-variants as answer
-use Rattle.receive.specs.Acknowledge.{acknowledged}
-use Rattle.receive.specs.Receive.{waiting, discarded, informed, nacked, replaced, ahead-in, end-after, hold-after}
+use Rattle.acknowledge.specs.Acknowledge.{acknowledged}
+use Rattle.effects.specs.Effects.{waiting, discarded, informed, nacked, replaced, ahead-in, end-after}
+use Rattle.receive.specs.Receive.{hold-after}
 use Rattle.link.specs.Stream.{Stream, owed, num, replay}
 use Rattle.link.specs.End.{Mode, run, wait, down, End}
 use Rattle.link.specs.Step

@@ -22,12 +22,14 @@ use Rattle.ends.specs.Ring.{flit-at, put-at, place}
 use Rattle.ends.specs.declared.state.End.{End as KeptEnd}
 use Rattle.ends.specs.declared.state.Mode.the-variants.{Down}
 use Rattle.ends.proofs.Tests.{pick-true, pick-false}
-use Rattle.answers.specs.Answers.{holds, damaged, straddles, skips, behind, past-sent, plain-answer, run-answer}
+use Rattle.arrivals.specs.Arrivals.{holds, damaged, straddles, skips, behind, past-sent}
+use Rattle.answers.specs.Answers.{plain-answer, run-answer}
 use Rattle.answers.specs.declared.Answer.{Answer}
 use Rattle.answers.specs.declared.Answer.the-variants as answer
-use Rattle.receive.specs.Acknowledge.{acknowledged}
+use Rattle.acknowledge.specs.Acknowledge.{acknowledged}
 use Rattle.receive.specs.Receive
-use Rattle.receive.specs.Receive.{waiting, discarded, idled, closed, delivered, nacked, end-after, hold-after}
+use Rattle.effects.specs.Effects.{waiting, discarded, idled, closed, delivered, nacked, end-after}
+use Rattle.receive.specs.Receive.{hold-after}
 use Rattle.link.specs.Stream.{Stream, owed, num, some, Flit, Item, part, control, idle, replay}
 use Rattle.link.specs.End.{run, wait, Sender, Receiver, End}
 use Rattle.link.specs.Step

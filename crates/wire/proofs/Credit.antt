@@ -14,8 +14,8 @@ use Rattle.ends.specs.Ring.{flit-at, place}
 use Rattle.ends.specs.Refusals.{cursor-at, acknowledged-at}
 use Rattle.ends.specs.declared.state.End.{End}
 use Rattle.ends.proofs.Tests.{pick-true, pick-false}
-use Rattle.receive.specs.Acknowledge.{freed-by, freed, sent-anew, acknowledged}
-use Rattle.receive.specs.Receive.{nacked}
+use Rattle.acknowledge.specs.Acknowledge.{freed-by, freed, sent-anew, acknowledged}
+use Rattle.effects.specs.Effects.{nacked}
 use Rattle.link.specs.Stream.{Stream, owed, num}
 use Rattle.link.specs.End.{Sender}
 use Rattle.link.specs.Step
@@ -24,7 +24,7 @@ use Rattle.link.proofs.Num.{num-le, num-lt, num-of-le}
 use Rattle.link.proofs.Inv.{Local}
 use Rattle.wire.proofs.Places.{place-lt, place-place}
 use Rattle.wire.proofs.Wrap.{wrap, most, after-wrap}
-use Rattle.wire.proofs.Stands.{Stands, Formed, flitOf, off, at-cursor, at-acknowledged, walk-at, borders-in, Within, unit-of}
+use Rattle.wire.proofs.Stands.{Stands, Formed, flit-of, off, at-cursor, at-acknowledged, walk-at, borders-in, Within, unit-of}
 
 -- the receiver's half stays
 pub record Same (q p : End) : Type 0 where
@@ -111,7 +111,7 @@ module _ (f : Stream) (store : List ℕ) (s : Sender) (q : End) (l : Local most 
     frees =
         let j = s .acked + n - num f o in
         let e : acknowledged-at q + n ≡ off f store s q l h fo o + j = omega (arith, at-acknowledged f store s q l h fo, w .begins, low, l .freed) in
-        ap (Rattle.receive.specs.Acknowledge.last-border (q .capacity .0) (q .first) (Rattle.ends.specs.Ring.begun (q .kept .0)) store) e
+        ap (Rattle.acknowledge.specs.Acknowledge.last-border (q .capacity .0) (q .first) (Rattle.ends.specs.Ring.begun (q .kept .0)) store) e
         ∙ borders-in f store s q l h fo o j (w .least) o-le (omega (arith, w .ends))
 
     abbrev left-over : End
@@ -142,7 +142,7 @@ module _ (f : Stream) (store : List ℕ) (s : Sender) (q : End) (l : Local most 
         base-sum z = omega arith
 
         ring : (i j : ℕ) → o ≤ i → i < s .accepted → j ≤ owed f i
-            → flit-at store (place (q .capacity .0) (place (q .capacity .0) (q .first) (num f o - num f (s .oldest))) (num f i + j - num f o)) ≡ flitOf (f i) j
+            → flit-at store (place (q .capacity .0) (place (q .capacity .0) (q .first) (num f o - num f (s .oldest))) (num f i + j - num f o)) ≡ flit-of (f i) j
         ring i j a b c =
             let z : num f o ≤ num f i = num-le f o i a in
             let y : num f (suc i) ≤ num f (s .accepted) = num-le f (suc i) (s .accepted) b in

@@ -13,7 +13,8 @@ use Rattle.ends.specs.Choice.{pick}
 use Rattle.ends.specs.declared.state.End.{End as KeptEnd}
 use Rattle.ends.specs.declared.state.Mode.{Mode as KeptMode}
 use Rattle.ends.proofs.Tests.{and-true, and-false-l, pick-true, pick-false}
-use Rattle.answers.specs.Answers.{holds, closes, checked, checked-in, damaged, skips, replay-answer, run-answer, wait-answer, mode-answer}
+use Rattle.arrivals.specs.Arrivals.{holds, closes, checked, checked-in, damaged, skips}
+use Rattle.answers.specs.Answers.{replay-answer, run-answer, wait-answer, mode-answer}
 use Rattle.answers.specs.declared.Answer.{Answer}
 use Rattle.link.specs.Stream.{Stream, owed, Flit, Item, part, control, idle, replay}
 use Rattle.link.specs.End.{Mode, run, wait, down, End}

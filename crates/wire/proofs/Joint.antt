@@ -22,8 +22,11 @@ use Rattle.ends.specs.declared.state.Verdict.{Verdict}
 use Rattle.ends.specs.declared.state.Verdict.the-variants.{Refused, Admitted}
 use Rattle.ends.proofs.Tests.{and-true, pick-true, pick-false}
 use Rattle.accept.specs.Accept as accept
+use Rattle.burst.specs.Burst as sending
 use Rattle.send.specs.Send as send
-use Rattle.answers.specs.Answers.{checked, mode-answer}
+use Rattle.arrivals.specs.Arrivals.{checked}
+use Rattle.answers.specs.Answers.{mode-answer}
+use Rattle.effects.specs.Effects as effects
 use Rattle.receive.specs.Receive as receive
 use Rattle.link.specs.Stream.{Stream, owed, num, first, Item}
 use Rattle.link.specs.End.{Mode, run, wait, down, Sender, End}
@@ -296,7 +299,7 @@ module _ (x y : Bool) (f g : Stream) (s : System) (j : Joint x y f g s) where
     n = run-at-cursor q store
 
     abbrev burst : List ℕ
-    burst = send.burst q store n errors information
+    burst = sending.burst q store n errors information
 
     -- the flits on the wire and the system after send, by its verdict
     abbrev flits-by : Verdict → List ℕ
@@ -325,18 +328,18 @@ module _ (x y : Bool) (f g : Stream) (s : System) (j : Joint x y f g s) where
         (sym (ap (λ (us : List (List ℕ)). s .ab .passages ++ passing us arrivals) no-units ∙ append-nil (s .ab .passages))) j
 
     em : Emitted (kind x) f g store (s .a .hold) (s .a .handed) (j .e) q (j .inv .own) (j .left .stands) (j .left .kept) (j .left .formed) (final (j .c) (j .l))
-        (j .inv .to .tail) live errors information small-errors small-information burst (send.burst-flits q n) (send.moved q n)
+        (j .inv .to .tail) live errors information small-errors small-information burst (sending.burst-flits q n) (sending.moved q n)
     em =
         emits-all (kind x) f g store (s .a .hold) (s .a .handed) (j .e) q (j .inv .own) (j .left .stands) (j .left .kept) (j .left .formed) (final (j .c) (j .l))
         (j .inv .to .tail) live errors information small-errors small-information
 
     wrote : flits-by Admitted ≡ burst
-    wrote = take-at burst (drop (length burst) output) (send.burst-flits q n * 64) (em .size)
+    wrote = take-at burst (drop (length burst) output) (sending.burst-flits q n * 64) (em .size)
 
-    goes : (ps : List Passage) → Sends (kind x) f g store (s .a .hold) (s .a .handed) (j .e) (final (j .c) (j .l)) ps (send.moved q n)
+    goes : (ps : List Passage) → Sends (kind x) f g store (s .a .hold) (s .a .handed) (j .e) (final (j .c) (j .l)) ps (sending.moved q n)
         → Joint x y f g
         (record {
-          a = record { end = send.moved q n; store = store; hold = s .a .hold; accepted = s .a .accepted; handed = s .a .handed };
+          a = record { end = sending.moved q n; store = store; hold = s .a .hold; accepted = s .a .accepted; handed = s .a .handed };
           b = s .b;
           ab = put ps (s .ab);
           ba = s .ba;
@@ -394,7 +397,7 @@ module _ (x y : Bool) (f g : Stream) (s : System) (j : Joint x y f g s) where
     admits a o =
         subst (λ (fs : List ℕ). Joint x y f g
         (record {
-          a = record { end = send.moved q n; store = store; hold = s .a .hold; accepted = s .a .accepted; handed = s .a .handed };
+          a = record { end = sending.moved q n; store = store; hold = s .a .hold; accepted = s .a .accepted; handed = s .a .handed };
           b = s .b;
           ab = put (passing (units-of fs) arrivals) (s .ab);
           ba = s .ba;
@@ -589,7 +592,7 @@ module _ (x y : Bool) (f g : Stream) (s : System) (j : Joint x y f g s) where
         }
       where
         v : Came f g (s .a .store) (j .e) (nx .i)
-            (receive.end-after (receive.answer-to (s .a .end) (s .a .store) (s .a .hold) (oldest-flit (s .ba))) (s .a .end) (s .a .store) (fields-of (oldest-flit (s .ba))))
+            (effects.end-after (receive.answer-to (s .a .end) (s .a .store) (s .a .hold) (oldest-flit (s .ba))) (s .a .end) (s .a .store) (fields-of (oldest-flit (s .ba))))
             (receive.hold-after (receive.answer-to (s .a .end) (s .a .store) (s .a .hold) (oldest-flit (s .ba))) (s .a .end) (s .a .hold) (oldest-flit (s .ba)))
             (s .a .handed
             ++ handed-by (receive.answer-to (s .a .end) (s .a .store) (s .a .hold) (oldest-flit (s .ba)))

@@ -12,7 +12,7 @@ use Rattle.flits.specs.declared.Fields.{Fields}
 use Rattle.ends.specs.Choice.{pick}
 use Rattle.ends.specs.declared.state.End.{End}
 use Rattle.ends.proofs.Tests.{and-true, and-false-l, pick-true, pick-false}
-use Rattle.answers.specs.Answers.{holds, closes, length-wrong, stall-wrong, straddles, damaged, skips, behind}
+use Rattle.arrivals.specs.Arrivals.{holds, closes, length-wrong, stall-wrong, straddles, damaged, skips, behind}
 use Rattle.link.specs.Stream.{some}
 use Rattle.wire.proofs.Tests.{and-false-r}
 

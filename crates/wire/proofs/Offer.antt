@@ -31,7 +31,7 @@ use Rattle.link.proofs.Inv.{Local}
 use Rattle.wire.proofs.Pieces.{cut, length-cut, flits-cut, joined-cut, getD-cut, flit-size, flit-bytes, flit-put-same, flit-put-other, put-size, put-bytes}
 use Rattle.wire.proofs.Places.{place-lt, place-apart}
 use Rattle.wire.proofs.Wrap.{most}
-use Rattle.wire.proofs.Stands.{Stands, Taken, flitOf}
+use Rattle.wire.proofs.Stands.{Stands, Taken, flit-of}
 use Rattle.wire.proofs.Says.{bytes-of}
 
 -- a unit's bytes as a unit
@@ -123,19 +123,19 @@ module _ (unit : List ℕ) (whole : length unit ≡ flits-of unit * 64) (some : 
   control-at =
       ap (take 64) (ap (λ (n : ℕ). drop n unit) (sym before)) ∙ take-all 64 (drop (length unit - 64) unit) (omega (arith, control-size))
 
-  pub block-flit : (j : ℕ) → j < flits-of unit → flitOf (block-of unit) j ≡ flit-at unit j
+  pub block-flit : (j : ℕ) → j < flits-of unit → flit-of (block-of unit) j ≡ flit-at unit j
   block-flit j h = go (decLt j (flits-of unit - 1))
     where
       len : length (block-of unit .parts) ≡ flits-of unit - 1
       len = block-parts
 
-      go : Dec (j < flits-of unit - 1) → flitOf (block-of unit) j ≡ flit-at unit j
+      go : Dec (j < flits-of unit - 1) → flit-of (block-of unit) j ≡ flit-at unit j
       go (yes p) =
           List·getD-append (block-of unit .parts) (control-of unit ∷ []) [] j (omega (arith, len)) ∙ getD-cut (flits-of unit - 1) unit j p
       go (no p) =
           let e : j ≡ length (block-of unit .parts) + 0 = omega (arith, len) in
           let e′ : flits-of unit - 1 ≡ j = omega arith in
-          ap (flitOf (block-of unit)) e ∙ getD-append-add (block-of unit .parts) (control-of unit ∷ []) 0 [] ∙ sym control-at
+          ap (flit-of (block-of unit)) e ∙ getD-append-add (block-of unit .parts) (control-of unit ∷ []) 0 [] ∙ sym control-at
           ∙ ap (flit-at unit) e′
 
 -- ---- the store after it
@@ -230,7 +230,7 @@ module _ (f : Stream) (store unit : List ℕ) (s : Sender) (q : KeptEnd) (l : Lo
 
         ring : (i j : ℕ) → s .oldest ≤ i → i < suc (s .accepted) → j ≤ owed f i → Dec (i < s .accepted)
             → flit-at (written (q .capacity .0) (q .first) (q .held .0) store unit (flits-of unit)) (place (q .capacity .0) (q .first) (num f i + j - num f (s .oldest)))
-            ≡ flitOf (f i) j
+            ≡ flit-of (f i) j
         ring i j a b c (yes d) =
             let u : num f (suc i) ≤ num f (s .accepted) = num-le f (suc i) (s .accepted) d in
             let v : num f (s .oldest) ≤ num f i = num-le f (s .oldest) i a in
@@ -242,9 +242,9 @@ module _ (f : Stream) (store unit : List ℕ) (s : Sender) (q : KeptEnd) (l : Lo
             let c′ : j ≤ owed f (s .accepted) = subst (λ (n : ℕ). j ≤ owed f n) e c in
             let z : num f (s .accepted) + j - num f (s .oldest) ≡ q .held .0 + j = omega (arith, h .held) in
             subst
-            (λ (n : ℕ). flit-at (written (q .capacity .0) (q .first) (q .held .0) store unit (flits-of unit)) (place (q .capacity .0) (q .first) (num f n + j - num f (s .oldest))) ≡ flitOf (f n) j)
+            (λ (n : ℕ). flit-at (written (q .capacity .0) (q .first) (q .held .0) store unit (flits-of unit)) (place (q .capacity .0) (q .first) (num f n + j - num f (s .oldest))) ≡ flit-of (f n) j)
             (sym e)
             (ap (λ (n : ℕ). flit-at (written (q .capacity .0) (q .first) (q .held .0) store unit (flits-of unit)) (place (q .capacity .0) (q .first) n)) z
             ∙ then-new (q .capacity .0) (q .first) (q .held .0) store unit (h .first) (h .size) (flits-of unit) j (o .room) long (omega (arith, flits-here))
             ∙ sym (block-flit unit (o .whole) (o .some) j (omega (arith, flits-here)))
-            ∙ ap (λ (u : Block). flitOf u j) (sym this))
+            ∙ ap (λ (u : Block). flit-of u j) (sym this))

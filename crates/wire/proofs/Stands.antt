@@ -21,7 +21,7 @@ use Rattle.ends.specs.declared.state.End.{End}
 use Rattle.ends.specs.declared.walk.Walk.{Walk}
 use Rattle.ends.proofs.Tests.{and-true, pick-true, pick-false}
 use Rattle.ends.proofs.Walks.{inside, next-border}
-use Rattle.receive.specs.Acknowledge.{last-border}
+use Rattle.acknowledge.specs.Acknowledge.{last-border}
 use Rattle.link.specs.Stream.{Block, Stream, owed, num}
 use Rattle.link.specs.End.{Sender}
 use Rattle.link.proofs.Num.{num-le}
@@ -30,8 +30,8 @@ use Rattle.wire.proofs.Pieces.{Flits, joined}
 use Rattle.wire.proofs.Wrap.{wrap, most, difference-up}
 
 -- flit j of unit u
-abbrev pub flitOf : Block → ℕ → List ℕ
-flitOf u j = getD (u .parts ++ (u .body ∷ [])) j []
+abbrev pub flit-of : Block → ℕ → List ℕ
+flit-of u j = getD (u .parts ++ (u .body ∷ [])) j []
 
 -- a unit as accept takes it
 pub record Taken (u : Block) : Type 0 where
@@ -68,7 +68,7 @@ pub record Stands (f : Stream) (store : List ℕ) (s : Sender) (q : End) : Type 
   pub pending : q .pending ≡ s .pending
   pub first : q .first < q .capacity .0
   pub ring : (i j : ℕ) → s .oldest ≤ i → i < s .accepted → j ≤ owed f i
-      → stored q store (num f i + j - num f (s .oldest)) ≡ flitOf (f i) j
+      → stored q store (num f i + j - num f (s .oldest)) ≡ flit-of (f i) j
 
 -- what of a state it goes by: where only the rest moves, it stands for the same
 pub record Sending : Type 0 where
@@ -159,7 +159,7 @@ module _ (f : Stream) (store : List ℕ) (s : Sender) (q : End) (l : Local most 
       let z : num f (s .oldest) ≤ num f i = num-le f (s .oldest) i a in
       let e : off i + owed f i ≡ num f i + owed f i - num f (s .oldest) = omega arith in
       let k : owed f i ≡ length (f i .parts) + 0 = omega (arith, l .cut i b) in
-      ap (stored q store) e ∙ h .ring i (owed f i) a b (omega arith) ∙ ap (flitOf (f i)) k
+      ap (stored q store) e ∙ h .ring i (owed f i) a b (omega arith) ∙ ap (flit-of (f i)) k
       ∙ getD-append-add (f i .parts) (f i .body ∷ []) 0 []
 
   -- a walk to the border of a unit

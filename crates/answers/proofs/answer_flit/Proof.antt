@@ -2,7 +2,8 @@ use mathlib.Core.Path.{sym, ap, _∙_}
 use borrow.Author.Needs.{needs}
 use Rattle.crc.specs.Unit.{right}
 use Rattle.answers.proofs.Found.{held-answer}
-use Rattle.answers.specs.Answers.{checked, mode-answer}
+use Rattle.arrivals.specs.Arrivals.{checked}
+use Rattle.answers.specs.Answers.{mode-answer}
 use Rattle.answers.proofs.answer_flit.Statement.{statement}
 use Rattle.answers.proofs.answer_flit.Tie as tie
 

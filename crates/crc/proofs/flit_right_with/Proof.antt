@@ -7,12 +7,12 @@ use native.Mathlib.Omega.{arith}
 use lib.ListN.{length, take, drop}
 use borrow.Author.Needs.{needs}
 use borrow.Author.Tests.{le-leb, lt-leb}
-use Rattle.crc.specs.Unit.{right, flitRight}
+use Rattle.crc.specs.Unit.{right, flit-right}
 use Rattle.crc.proofs.flit_right_with.Statement.{statement}
 use Rattle.crc.proofs.flit_right_with.Tie as tie
 
 returns : tie.Need-returns
-unfolding flitRight
+unfolding flit-right
 returns c =
     let s = c .before .before .args .s .now in
     let at = c .before .before .args .at in
@@ -22,7 +22,7 @@ sub-if2 : tie.Need-sub-if2
 sub-if2 c = search needs
 
 returns-2 : tie.Need-returns-2
-unfolding flitRight
+unfolding flit-right
 returns-2 c =
     let s = c .before .before .before .args .s .now in
     let at = c .before .before .before .args .at in
@@ -44,7 +44,7 @@ right-with-requires : tie.Need-right-with-requires
 right-with-requires c κs = search needs
 
 returns-3 : tie.Need-returns-3
-unfolding flitRight
+unfolding flit-right
 returns-3 c =
     let s = c .before .before .before .before .before .args .s .now in
     let at = c .before .before .before .before .before .args .at in

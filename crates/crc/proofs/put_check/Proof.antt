@@ -12,7 +12,7 @@ use lib.Bits.{bitAnd, bitOr, and-mask, mask-lt, or-shifted-r}
 use borrow.Author.Needs.{needs}
 use Rattle.crc.proofs.put_check.Statement.{statement}
 use Rattle.crc.proofs.put_check.Tie as tie
-use Rattle.crc.specs.Seal.{withCheck, checkBytes}
+use Rattle.crc.specs.Seal.{with-check, check-bytes}
 
 low-byte : (n : ℕ) → bitAnd n 255 < 256
 low-byte n = mask-lt n 8
@@ -81,8 +81,8 @@ stored : (s : List ℕ) (r : ℕ) → 5 ≤ length s
     → sets s (length s - 5)
     (bitOr (bitAnd (getD s (length s - 5) 0) 15) (bitAnd r 15 * 16 % 2 ^ 64)
     ∷ bitAnd (r / 2 ^ 4) 255 ∷ bitAnd (r / 2 ^ 12) 255 ∷ bitAnd (r / 2 ^ 20) 255 ∷ bitAnd (r / 2 ^ 28) 255 ∷ [])
-    ≡ withCheck s r
-unfolding withCheck
+    ≡ with-check s r
+unfolding with-check
 stored s r h =
     let x = getD s (length s - 5) 0 in
     let l : length s - 5 + 5 ≡ length s = omega arith in
@@ -90,9 +90,9 @@ stored s r h =
     (ap₂ {C = List ℕ} (λ (v : ℕ) (vs : List ℕ). v ∷ vs) (and-mask (r / 2 ^ 4) 8)
     (ap₂ {C = List ℕ} (λ (v : ℕ) (vs : List ℕ). v ∷ vs) (and-mask (r / 2 ^ 12) 8)
     (ap₂ {C = List ℕ} (λ (v w : ℕ). v ∷ w ∷ []) (and-mask (r / 2 ^ 20) 8) (and-mask (r / 2 ^ 28) 8))))
-    ∙ sets-eq (checkBytes x r) s (length s - 5) (omega arith)
-    ∙ ap (λ (v : List ℕ). take (length s - 5) s ++ checkBytes x r ++ v) (ap (λ (n : ℕ). drop n s) l ∙ drop-length s)
-    ∙ append-nil (take (length s - 5) s ++ checkBytes x r)
+    ∙ sets-eq (check-bytes x r) s (length s - 5) (omega arith)
+    ∙ ap (λ (v : List ℕ). take (length s - 5) s ++ check-bytes x r ++ v) (ap (λ (n : ℕ). drop n s) l ∙ drop-length s)
+    ∙ append-nil (take (length s - 5) s ++ check-bytes x r)
 
 same-length : tie.Need-same-length
 same-length c = search needs

@@ -7,7 +7,7 @@ use native.Mathlib.Omega.{arith}
 use lib.ListN.{length}
 use borrow.Author.Needs.{needs}
 use Rattle.crc.specs.Register.{continued}
-use Rattle.crc.specs.Seal.{withCheck, checkOf, sealed}
+use Rattle.crc.specs.Seal.{with-check, check-of, sealed}
 use Rattle.crc.proofs.Bytes.{continued-remainder}
 use Rattle.crc.proofs.Sealing.{with-twice, sealed-long, sealed-short}
 use Rattle.crc.proofs.seal_with.Statement.{statement}
@@ -29,10 +29,10 @@ same-length : tie.Need-same-length
 same-length c = search needs
 
 -- zeros, their remainder, and the remainder in their place
-in-place : (s zeros : List ℕ) (check : ℕ) → 5 ≤ length s → zeros ≡ withCheck s 0 → check ≡ continued 0 zeros → withCheck zeros check ≡ sealed s
-unfolding checkOf
+in-place : (s zeros : List ℕ) (check : ℕ) → 5 ≤ length s → zeros ≡ with-check s 0 → check ≡ continued 0 zeros → with-check zeros check ≡ sealed s
+unfolding check-of
 in-place s zeros check h z e =
-    ap₂ withCheck z (e ∙ ap (continued 0) z ∙ continued-remainder (withCheck s 0)) ∙ with-twice s 0 (checkOf s) h ∙ sym (sealed-long s h)
+    ap₂ with-check z (e ∙ ap (continued 0) z ∙ continued-remainder (with-check s 0)) ∙ with-twice s 0 (check-of s) h ∙ sym (sealed-long s h)
 
 returns-2 : tie.Need-returns-2
 returns-2 c =

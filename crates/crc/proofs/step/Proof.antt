@@ -7,7 +7,7 @@ use native.Mathlib.Nat.{mod-eq-of-lt}
 use native.Mathlib.Omega.{arith}
 use lib.ListN.{getD}
 use lib.Bits.{bitAnd, bitXor, and-mask, mask-lt}
-use Rattle.crc.specs.Register.{places, generator, table, takeByte}
+use Rattle.crc.specs.Register.{places, generator, table, take-byte}
 use Rattle.crc.proofs.Places.{places-split}
 use Rattle.crc.proofs.Table.{entry}
 use Rattle.crc.proofs.step.Statement.{statement}
@@ -20,7 +20,7 @@ element-copy-out-result : tie.Need-element-copy-out-result
 element-copy-out-result c = mask-lt (c .args .r) 8
 
 value : (t : List ℕ) (r b : ℕ) → t ≡ table → b < 2 ^ 8
-    → bitXor (bitXor (r / 2 ^ 8) (getD t (bitAnd r 255) 0)) (b * 2 ^ 28 % 2 ^ 64) ≡ takeByte r b
+    → bitXor (bitXor (r / 2 ^ 8) (getD t (bitAnd r 255) 0)) (b * 2 ^ 28 % 2 ^ 64) ≡ take-byte r b
 value t r b e hb =
     ap₂ bitXor
     (ap (bitXor (r / 2 ^ 8))

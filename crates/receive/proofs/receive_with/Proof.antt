@@ -6,8 +6,10 @@ use Rattle.crc.specs.Unit.{right}
 use Rattle.flits.specs.declared.Fields.{Fields}
 use Rattle.ends.specs.declared.state.Verdict.{Verdict}
 use Rattle.ends.proofs.Facts.{sound-is}
-use Rattle.answers.specs.Answers.{checked, mode-answer}
-use Rattle.receive.specs.Receive.{end-after, hold-after, answer-by, answer-to, receive, receive-hold}
+use Rattle.arrivals.specs.Arrivals.{checked}
+use Rattle.answers.specs.Answers.{mode-answer}
+use Rattle.effects.specs.Effects.{end-after}
+use Rattle.receive.specs.Receive.{hold-after, answer-by, answer-to, receive, receive-hold}
 use Rattle.receive.proofs.Admission.{admission}
 use Rattle.receive.proofs.receive_with.Statement.{statement}
 use Rattle.receive.proofs.receive_with.Tie as tie

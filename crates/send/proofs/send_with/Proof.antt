@@ -7,12 +7,13 @@ use borrow.Author.Needs.{needs}
 use lib.ListN.{length, drop}
 use Rattle.ends.specs.declared.state.End.{End}
 use Rattle.ends.specs.declared.state.Verdict.the-variants.{Refused, Admitted}
-use Rattle.send.specs.Send.{verdict, burst, burst-flits, moved}
+use Rattle.burst.specs.Burst.{burst, burst-flits, moved}
+use Rattle.send.specs.Send.{verdict}
 use Rattle.send.specs.declared.Answer.the-variants as answer
 use Rattle.send.specs.declared.Sent.{Sent}
 use Rattle.send.proofs.Cases.{admitted}
 use Rattle.send.proofs.Outcomes.{send-refused, output-refused, send-admitted, output-admitted}
-use Rattle.send.proofs.Ready.{ready}
+use Rattle.burst.proofs.Ready.{ready}
 use Rattle.send.proofs.send_with.Statement.{statement}
 use Rattle.send.proofs.send_with.Tie as tie
 

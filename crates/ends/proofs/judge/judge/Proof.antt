@@ -1,9 +1,12 @@
-use mathlib.Core.Bool.{true, false, _&&_}
+use mathlib.Core.Bool.{Bool, true, false, _&&_}
+use mathlib.Core.List.{List}
 use mathlib.Core.Path.{_≡_, sym, ap, _∙_}
 use Prim.Native.Nat.{ℕ}
 use native.Mathlib.Omega.{arith}
 use borrow.Author.Needs.{needs}
-use Rattle.ends.specs.Refusals.{counts-sound, numbers-sound, units-sound, sound}
+use Rattle.ends.specs.Choice.{pick}
+use Rattle.ends.specs.Refusals.{cursor-at, counts-sound, numbers-sound, units-sound, sound, run-at-cursor, last-run}
+use Rattle.ends.specs.declared.state.End.{End}
 use Rattle.ends.specs.Ring.{walked}
 use Rattle.ends.specs.declared.walk.Walk.{Walk}
 use Rattle.ends.proofs.Tests.{and-l, and-r, and-false-l, pick-true, pick-false}
@@ -30,54 +33,61 @@ cut-units-requires c κs =
     let k = stored-is (a .e) _ (c .before .before .before .before .before .pre) in
     omega (arith, c .flits-between .ensures)
 
-returns : tie.Need-returns
+-- the three parts of soundness, from what was found of each
+parts-found : (e : End) (store : List ℕ) (a b : Bool) (n : ℕ) (v w : Walk) (t : Bool) → a ≡ counts-sound e → b ≡ numbers-sound e → (a && b) ≡ true
+    → n ≡ cursor-at e
+    → v ≡ walked e store n
+    → w ≡ walked e store (e .held .0)
+    → (w .border && w .sound && v .border) ≡ t
+    → sound e store ≡ t
 unfolding sound units-sound
+parts-found e store a b n v w t h k l p q r u = cc
+
+-- the run lengths of a sound state, and of another
+runs-found : (e : End) (store : List ℕ) (n : ℕ) (v w : Walk) → n ≡ cursor-at e → v ≡ walked e store n → w ≡ walked e store (e .held .0)
+    → sound e store ≡ true
+    → (v .run ≡ pick (sound e store) (run-at-cursor e store) 0) × (w .run ≡ pick (sound e store) (last-run e store) 0)
+runs-found e store n v w p q r s = (
+  ap (λ (x : Walk). x .run) q ∙ ap (λ (m : ℕ). walked e store m .run) p ∙ sym (pick-true (sound e store) (run-at-cursor e store) 0 s),
+  ap (λ (x : Walk). x .run) r ∙ sym (pick-true (sound e store) (last-run e store) 0 s),
+)
+
+no-runs : (e : End) (store : List ℕ) → sound e store ≡ false
+    → (false ≡ sound e store) × ((0 ≡ pick (sound e store) (run-at-cursor e store) 0) × (0 ≡ pick (sound e store) (last-run e store) 0))
+no-runs e store s = (sym s, (sym (pick-false (sound e store) (run-at-cursor e store) 0 s), sym (pick-false (sound e store) (last-run e store) 0 s)))
+
+returns : tie.Need-returns
 returns c =
     let a = c .before .before .before .before .before .before .before .before .before .args in
-    let k = c .before .before .before .cut-units .ensures in
-    let f = c .before .before .before .before .flits-between .ensures in
-    let s : sound (a .e) (a .store .now) ≡ true =
-    cc (
-      c .before .before .before .before .before .if1 .taken,
-      c .before .before .before .before .before .before .numbers-sound .ensures,
-      c .before .before .before .before .before .before .before .counts-sound .ensures,
-      c .if2 .taken,
-      k .0,
-      k .1,
-      f,
-    ) in (
-      sym s,
-      (
-        ap (λ (w : Walk). w .run) (k .0) ∙ ap (λ (n : ℕ). walked (a .e) (a .store .now) n .run) f ∙ sym (pick-true _ _ 0 s),
-        ap (λ (w : Walk). w .run) (k .1) ∙ sym (pick-true _ _ 0 s),
-      ),
-    )
+    let k = c .before .before .before .cut-units in
+    let f = c .before .before .before .before .flits-between in
+    let x = c .before .before .before .before .before .before .numbers-sound in
+    let y = c .before .before .before .before .before .before .before .counts-sound in
+    let s = parts-found (a .e) (a .store .now) (y .result) (x .result) (f .result .0) (k .result .cursor) (k .result .whole) true
+    (y .ensures) (x .ensures) (c .before .before .before .before .before .if1 .taken) (f .ensures) (k .ensures .0) (k .ensures .1) (cc (c .if2 .taken)) in
+    (sym s, runs-found (a .e) (a .store .now) (f .result .0) (k .result .cursor) (k .result .whole) (f .ensures) (k .ensures .0) (k .ensures .1) s)
 
 returns-2 : tie.Need-returns-2
-unfolding sound units-sound
 returns-2 c =
     let a = c .before .before .before .before .before .before .before .before .before .args in
-    let k = c .before .before .before .cut-units .ensures in
-    let f = c .before .before .before .before .flits-between .ensures in
-    let s : sound (a .e) (a .store .now) ≡ false =
-    cc (
-      c .before .before .before .before .before .if1 .taken,
-      c .before .before .before .before .before .before .numbers-sound .ensures,
-      c .before .before .before .before .before .before .before .counts-sound .ensures,
-      c .if2 .left,
-      k .0,
-      k .1,
-      f,
-    ) in
-    (sym s, (sym (pick-false _ _ 0 s), sym (pick-false _ _ 0 s)))
+    let k = c .before .before .before .cut-units in
+    let f = c .before .before .before .before .flits-between in
+    let x = c .before .before .before .before .before .before .numbers-sound in
+    let y = c .before .before .before .before .before .before .before .counts-sound in
+    no-runs (a .e) (a .store .now) (parts-found (a .e) (a .store .now) (y .result) (x .result) (f .result .0) (k .result .cursor) (k .result .whole) false
+    (y .ensures) (x .ensures) (c .before .before .before .before .before .if1 .taken) (f .ensures) (k .ensures .0) (k .ensures .1) (cc (c .if2 .left)))
+
+-- the counts or the numbers are not sound
+not-sound : (e : End) (store : List ℕ) (a b : Bool) → a ≡ counts-sound e → b ≡ numbers-sound e → (a && b) ≡ false → sound e store ≡ false
+unfolding sound
+not-sound e store a b h k l = and-false-l (counts-sound e && numbers-sound e) (units-sound e store) (cc (h, k, l))
 
 returns-3 : tie.Need-returns-3
-unfolding sound
 returns-3 c =
     let a = c .before .before .before .before .args in
-    let s : sound (a .e) (a .store .now) ≡ false =
-    and-false-l (counts-sound (a .e) && numbers-sound (a .e)) (units-sound (a .e) (a .store .now)) (cc (c .if1 .left, c .before .numbers-sound .ensures, c .before .before .counts-sound .ensures)) in
-    (sym s, (sym (pick-false _ _ 0 s), sym (pick-false _ _ 0 s)))
+    let x = c .before .numbers-sound in
+    let y = c .before .before .counts-sound in
+    no-runs (a .e) (a .store .now) (not-sound (a .e) (a .store .now) (y .result) (x .result) (y .ensures) (x .ensures) (c .if1 .left))
 
 pub judge-spec : {M : Type 1} → statement M
 judge-spec =

@@ -1,9 +1,10 @@
-use mathlib.Core.Path.{_≡_, refl}
+use mathlib.Core.Path.{_≡_, refl, ap, _∙_}
 use Prim.Native.Nat.{_+_, _*_, _<_, _≤_, _-_}
 use native.Mathlib.Omega.{arith}
 use borrow.Author.Needs.{needs}
-use Rattle.ends.proofs.Walks.{walk-step, met-again}
+use Rattle.ends.proofs.Walks.{one-more, met-again}
 use Rattle.ends.specs.Ring.{place, walk}
+use Rattle.ends.specs.declared.walk.Walk.{Walk}
 use Rattle.ends.proofs.Parts.{flit-is}
 use Rattle.ends.proofs.walk.cut_units.Statement.{statement}
 use Rattle.ends.proofs.walk.cut_units.Tie as tie
@@ -60,7 +61,7 @@ loop-again c = let l = c .before .before .before .before .before .loop in
     let f = flit-is (a .store .now) p (p * 64) (p * 64 + 64 - p * 64) refl (omega arith) in
     let W = walk (a .e .capacity .0) (a .e .first) w₀ (a .store .now) in (
       omega arith,
-      cc (c .passed .ensures, f, c .before .before .place .ensures .0, l .inv .1, walk-step (a .e .capacity .0) (a .e .first) w₀ (a .store .now) (l .n)),
+      one-more (a .e .capacity .0) (a .e .first) w₀ (a .store .now) (l .n) p _ (l .w) (c .passed .result) (c .passed .ensures) f (c .before .before .place .ensures .0) (l .inv .1),
       met-again W (l .n) (a .cursor .0) (l .w) (l .met) (c .before .before .before .newest .result) (c .before .before .before .newest .ensures) (l .inv .1)
           (l .inv .2),
     )
@@ -76,8 +77,10 @@ returns c =
     let W = walk (a .e .capacity .0) (a .e .first) w₀ (a .store .now) in
     let b = c .before .before .before .begun .ensures in
     let n : l .n ≡ a .e .held .0 = omega arith in
-    let m = met-again W (l .n) (a .cursor .0) (l .w) (l .met) (c .newest2 .result) (c .newest2 .ensures) (l .inv .1) (l .inv .2) (omega arith) in
-    (cc, cc (l .inv .1))
+    let m = met-again W (l .n) (a .cursor .0) (l .w) (l .met) (c .newest2 .result) (c .newest2 .ensures) (l .inv .1) (l .inv .2) (omega arith) in (
+      m ∙ ap (λ (w : Walk). walk (a .e .capacity .0) (a .e .first) w (a .store .now) (a .cursor .0)) b,
+      l .inv .1 ∙ ap W n ∙ ap (λ (w : Walk). walk (a .e .capacity .0) (a .e .first) w (a .store .now) (a .e .held .0)) b,
+    )
 
 pub cut-units-spec : {M : Type 1} → statement M
 cut-units-spec =

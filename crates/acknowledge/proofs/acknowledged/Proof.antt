@@ -1,0 +1,72 @@
+use mathlib.Core.Path.{_≡_, sym, ap, _∙_}
+use Prim.Native.Nat.{ℕ, _+_}
+use native.Mathlib.Omega.{arith}
+use borrow.Author.Tests.{lt-ltb, le-ltb}
+use borrow.Author.Needs.{needs}
+use lib.Dec.{ltb}
+use Rattle.ends.specs.Ring.{begun}
+use Rattle.acknowledge.proofs.Steps.{acknowledged-anew, acknowledged-only}
+use Rattle.acknowledge.specs.Acknowledge.{last-border, freed-by}
+use Rattle.acknowledge.proofs.Borders.{border-within}
+use Rattle.acknowledge.proofs.acknowledged.Statement.{statement}
+use Rattle.acknowledge.proofs.acknowledged.Tie as tie
+
+flits-between-requires : tie.Need-flits-between-requires
+flits-between-requires c κs = search needs
+
+add-find-border : tie.Need-add-find-border
+add-find-border c = omega (arith, c .before .before .flits-between .ensures)
+
+find-border-requires : tie.Need-find-border-requires
+find-border-requires c κs = omega (arith, c .before .before .flits-between .ensures)
+
+flits-between-requires-2 : tie.Need-flits-between-requires-2
+flits-between-requires-2 c κs = search needs
+
+number-after-requires : tie.Need-number-after-requires
+number-after-requires c κs = search needs
+
+freed-requires : tie.Need-freed-requires
+freed-requires c κs =
+    let a = c .before .before .before .before .before .before .before .args in
+    let h = border-within (a .e .capacity .0) (a .e .first) (begun (a .e .kept .0)) (a .store .now) (c .before .before .before .before .before .flits-between .result .0 + a .flits .0) in
+    (omega arith, omega arith, omega (arith, c .before .before .find-border .ensures .0, c .before .before .before .before .before .flits-between .ensures), omega arith, c .before .before .find-border .ensures .1)
+
+sent-anew-requires : tie.Need-sent-anew-requires
+sent-anew-requires c κs = search needs
+
+returns : tie.Need-returns
+returns c =
+    let a = c .before .before .before .before .before .before .before .before .before .before .before .before .args in
+    let k = c .before .before .before .before .before .before .before .find-border in
+    let d = c .before .before .before .before .before .before .before .before .before .before .flits-between .ensures in
+    let h : k .result .flits ≡ freed-by (a .e) (a .store .now) (a .flits .0) =
+    k .ensures .0 ∙ ap (λ (m : ℕ). last-border (a .e .capacity .0) (a .e .first) (begun (a .e .kept .0)) (a .store .now) (m + a .flits .0)) d in
+    let x = c .before .before .before .before .before .number-after in
+    c .sent-anew .ensures ∙ acknowledged-anew (a .e) (a .store .now) (a .flits .0) (k .result .flits) (x .result .0) (c .before .before .before .before .freed .result) (c .before .before .before .before .freed .ensures) h (x .ensures)
+    (ap (λ (m : ℕ). ltb m (k .result .flits)) (sym (c .before .before .before .before .before .before .flits-between2 .ensures)) ∙ lt-ltb _ _ (c .before .if1 .taken))
+
+returns-2 : tie.Need-returns-2
+returns-2 c =
+    let a = c .before .before .before .before .before .before .before .before .before .before .before .args in
+    let k = c .before .before .before .before .before .before .find-border in
+    let d = c .before .before .before .before .before .before .before .before .before .flits-between .ensures in
+    let h : k .result .flits ≡ freed-by (a .e) (a .store .now) (a .flits .0) =
+    k .ensures .0 ∙ ap (λ (m : ℕ). last-border (a .e .capacity .0) (a .e .first) (begun (a .e .kept .0)) (a .store .now) (m + a .flits .0)) d in
+    let x = c .before .before .before .before .number-after in
+    acknowledged-only (a .e) (a .store .now) (a .flits .0) (k .result .flits) (x .result .0) (c .before .before .before .freed .result) (c .before .before .before .freed .ensures) h (x .ensures)
+    (ap (λ (m : ℕ). ltb m (k .result .flits)) (sym (c .before .before .before .before .before .flits-between2 .ensures)) ∙ le-ltb _ _ (c .if1 .left))
+
+pub acknowledged-spec : {M : Type 1} → statement M
+acknowledged-spec =
+    tie.close
+    (tie.spec
+    flits-between-requires
+    add-find-border
+    find-border-requires
+    flits-between-requires-2
+    number-after-requires
+    freed-requires
+    sent-anew-requires
+    returns
+    returns-2)

@@ -1,0 +1,21 @@
+use borrow.Author.Needs.{needs}
+use Rattle.arrivals.specs.Arrivals.{newly-covered}
+use Rattle.arrivals.proofs.newly_covered.Statement.{statement}
+use Rattle.arrivals.proofs.newly_covered.Tie as tie
+
+next-wanted-requires : tie.Need-next-wanted-requires
+next-wanted-requires c κs = search needs
+
+wanted-number-requires : tie.Need-wanted-number-requires
+wanted-number-requires c κs = search needs
+
+flits-between-requires : tie.Need-flits-between-requires
+flits-between-requires c κs = search needs
+
+returns : tie.Need-returns
+unfolding newly-covered
+returns c = cc
+
+pub newly-covered-spec : {M : Type 1} → statement M
+newly-covered-spec =
+    tie.close (tie.spec next-wanted-requires wanted-number-requires flits-between-requires returns)

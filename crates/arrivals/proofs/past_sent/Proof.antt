@@ -1,0 +1,14 @@
+use borrow.Author.Needs.{needs}
+use Rattle.arrivals.specs.Arrivals.{past-sent}
+use Rattle.arrivals.proofs.past_sent.Statement.{statement}
+use Rattle.arrivals.proofs.past_sent.Tie as tie
+
+flits-between-requires : tie.Need-flits-between-requires
+flits-between-requires c κs = search needs
+
+returns : tie.Need-returns
+unfolding past-sent
+returns c = cc
+
+pub past-sent-spec : {M : Type 1} → statement M
+past-sent-spec = tie.close (tie.spec flits-between-requires returns)

@@ -1,0 +1,3 @@
+pub mod Covering
+pub mod Newest
+pub mod Steps

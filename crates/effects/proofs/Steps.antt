@@ -1,0 +1,26 @@
+-- The state after a step, put together from the states that its parts give. Assumes nothing.
+use mathlib.Core.List.{List}
+use mathlib.Core.Path.{_≡_, ap, ap₂}
+use Prim.Native.Nat.{ℕ, _+_}
+use Rattle.numbers.specs.Numbers.{width, after}
+use Rattle.flits.specs.declared.Fields.{Fields}
+use Rattle.ends.specs.Update.{with-position, with-gathered, with-owed, with-stalled, with-wanted, with-untold}
+use Rattle.ends.specs.declared.state.End.{End}
+use Rattle.arrivals.specs.Arrivals.{newly-covered}
+use Rattle.acknowledge.specs.Acknowledge.{acknowledged}
+use Rattle.effects.specs.Effects.{closed, delivered, informed, nacked, replaced}
+
+-- a delivery, where r is the state after its control flit and w the number after the unit
+pub delivered-is : (e : End) (store : List ℕ) (f : Fields) (w : ℕ) (r : End) → r ≡ closed e store f
+    → w ≡ after width (e .wanted .0) (e .gathered .0 + 1)
+    → with-wanted w (with-untold (e .untold .0 + (e .gathered .0 + 1)) r) ≡ delivered e store f
+unfolding delivered
+delivered-is e store f w r p q = ap₂ (λ (v : ℕ) (z : End). with-wanted v (with-untold (e .untold .0 + (e .gathered .0 + 1)) z)) q p
+
+-- a replay flit, where r is the state after acknowledgement, link information and NACK
+pub replaced-is : (e : End) (store : List ℕ) (f : Fields) (r : End)
+    → r ≡ nacked (f .nack) (informed (f .information) (acknowledged e store (newly-covered e (f .last .0))))
+    → with-position (f .start .0) (with-gathered 0 (with-owed (f .previous .0) (with-stalled (f .stalled) r))) ≡ replaced e store f
+unfolding replaced
+replaced-is e store f r p =
+    ap (λ (z : End). with-position (f .start .0) (with-gathered 0 (with-owed (f .previous .0) (with-stalled (f .stalled) z)))) p

@@ -1,0 +1,40 @@
+use mathlib.Core.Path.{ap, _∙_, sym, subst}
+use Prim.Native.Nat.{ℕ}
+use borrow.Author.Needs.{needs}
+use Rattle.effects.proofs.Steps.{replaced-is}
+use Rattle.effects.specs.Effects.{informed, nacked}
+use Rattle.acknowledge.specs.Acknowledge.{acknowledged, Covered}
+use Rattle.effects.proofs.replaced.Statement.{statement}
+use Rattle.effects.proofs.replaced.Tie as tie
+
+newly-covered-requires : tie.Need-newly-covered-requires
+newly-covered-requires c κs = search needs
+
+acknowledged-requires : tie.Need-acknowledged-requires
+acknowledged-requires c κs = subst (λ (n : ℕ). Covered (c .before .before .args .e) (c .before .before .args .store .now) n) (sym (c .newly-covered .ensures)) (c .before .before .pre)
+
+informed-requires : tie.Need-informed-requires
+informed-requires c κs = search needs
+
+nacked-requires : tie.Need-nacked-requires
+nacked-requires c κs = search needs
+
+returns : tie.Need-returns
+returns c =
+    let a = c .before .before .before .before .before .before .before .args in
+    replaced-is (a .e) (a .store .now) (a .f) (c .before .before .nacked .result)
+    (c .before .before .nacked .ensures
+    ∙ ap (nacked (a .f .nack))
+    (c .before .before .before .informed .ensures
+    ∙ ap (informed (a .f .information))
+    (c .before .before .before .before .acknowledged .ensures ∙ ap (acknowledged (a .e) (a .store .now)) (c .before .before .before .before .before .newly-covered .ensures))))
+
+pub replaced-spec : {M : Type 1} → statement M
+replaced-spec =
+    tie.close
+    (tie.spec
+    newly-covered-requires
+    acknowledged-requires
+    informed-requires
+    nacked-requires
+    returns)

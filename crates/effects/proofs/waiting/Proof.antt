@@ -1,0 +1,14 @@
+use borrow.Author.Needs.{needs}
+use Rattle.effects.specs.Effects.{waiting}
+use Rattle.effects.proofs.waiting.Statement.{statement}
+use Rattle.effects.proofs.waiting.Tie as tie
+
+with-mode-requires : tie.Need-with-mode-requires
+with-mode-requires c κs = search needs
+
+returns : tie.Need-returns
+unfolding waiting
+returns c = cc
+
+pub waiting-spec : {M : Type 1} → statement M
+waiting-spec = tie.close (tie.spec with-mode-requires returns)
