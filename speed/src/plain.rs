@@ -34,13 +34,31 @@ static SLICES: [[u64; 256]; 8] = [
     table(8),
 ];
 
-#[inline(never)]
-pub fn right_by_bytes(unit: &[u8]) -> bool {
-    let mut left = 0u64;
-    for &byte in unit {
+/// What is left of the division after more bytes.
+pub fn continued(mut left: u64, part: &[u8]) -> u64 {
+    for &byte in part {
         left = (left >> 8) ^ TABLE[(left & 255) as usize] ^ ((byte as u64) << 28);
     }
-    left == 0
+    left
+}
+
+#[inline(never)]
+pub fn right_by_bytes(unit: &[u8]) -> bool {
+    continued(0, unit) == 0
+}
+
+/// Whether a unit is right whose data lies in one place and its closing flit in another.
+pub fn right_after(held: &[u8], flit: &[u8]) -> bool {
+    continued(continued(0, held), flit) == 0
+}
+
+/// Makes a unit right: its last 36 bits become its check.
+pub fn seal(unit: &mut [u8]) {
+    let at = unit.len() - 8;
+    let low = u64::from_le_bytes(unit[at..].try_into().unwrap()) & 0xfff_ffff;
+    unit[at..].copy_from_slice(&low.to_le_bytes());
+    let check = continued(0, unit);
+    unit[at..].copy_from_slice(&(low | check << 28).to_le_bytes());
 }
 
 #[inline(never)]

@@ -7,7 +7,7 @@ use Prim.Native.Nat.{ℕ, zero, suc, _+_, _-_, _<_, _≤_}
 use native.Mathlib.Omega.{arith}
 use native.Mathlib.Nat.{add-suc, add-zero}
 use native.Mathlib.Numerals.{add-one}
-use borrow.Author.Tests.{ltb-true, ltb-false, lt-ltb, le-ltb, leb-true, eqb-true, eqb-false}
+use borrow.Author.Tests.{ltb-true, ltb-false, lt-ltb, le-ltb, leb-true, ne-eqb}
 use lib.Dec.{ltb, leb, eqb}
 use Rattle.flits.specs.Bytes.{field, read}
 use Rattle.flits.specs.Fields.{content, run-length, acceptable}
@@ -15,7 +15,7 @@ use Rattle.ends.specs.Choice.{pick}
 use Rattle.ends.specs.Ring.{flit-at, place, begun, passed, walk, walked, stored}
 use Rattle.ends.specs.declared.state.End.{End}
 use Rattle.ends.specs.declared.walk.Walk.{Walk}
-use Rattle.ends.proofs.Tests.{and-l, and-r, pick-true, pick-false, pick-either}
+use Rattle.ends.proofs.Tests.{and-l, and-r, pick-either}
 
 -- a data flit, and a control flit
 pub passed-data : (flit : List ℕ) (w : Walk) → 0 < w .left
@@ -146,7 +146,7 @@ module _ (e : End) (store : List ℕ) (small : e .kept .0 ≤ 8) (k : ℕ) (bord
           let z : _≡_ {A = ℕ} 0 1 = cc in
           absurd (omega arith)
 
--- the walk by the code's steps: one flit more, and what was met at a place on the way
+-- the walk by the code's steps: one flit more, and some of the data flits before the next control flit
 pub walk-step : (places first : ℕ) (w : Walk) (store : List ℕ) (n : ℕ)
     → walk places first w store (n + 1) ≡ passed (flit-at store (place places first n)) (walk places first w store n)
 unfolding walk
@@ -158,13 +158,39 @@ pub one-more : (places first : ℕ) (w₀ : Walk) (store : List ℕ) (n p : ℕ)
     → r ≡ walk places first w₀ store (n + 1)
 one-more places first w₀ store n p flit w r h f k v = h ∙ ap₂ passed (f ∙ ap (flit-at store) k) v ∙ sym (walk-step places first w₀ store n)
 
-pub met-again : (W : ℕ → Walk) (n at : ℕ) (w met r : Walk) → r ≡ pick (eqb n at) w met → w ≡ W n → (at < n → met ≡ W at) → at < n + 1
-    → r ≡ W at
-met-again W n at w met r e v m h = go (eqb n at) refl
+-- a walk is its four parts
+same : (u v : Walk) → u .left ≡ v .left → u .run ≡ v .run → u .border ≡ v .border → u .sound ≡ v .sound → u ≡ v
+same u v l r b s =
+    ap (λ (x : ℕ). made x (u .run) (u .border) (u .sound)) l ∙ ap (λ (x : ℕ). made (v .left) x (u .border) (u .sound)) r
+    ∙ ap (λ (x : Bool). made (v .left) (v .run) x (u .sound)) b
+    ∙ ap (λ (x : Bool). made (v .left) (v .run) (v .border) x) s
   where
-    go : (b : Bool) → eqb n at ≡ b → r ≡ W at
-    go true t = e ∙ pick-true (eqb n at) w met t ∙ v ∙ ap W (eqb-true n at t)
-    go false t = e ∙ pick-false (eqb n at) w met t ∙ m (apart (eqb-false n at t))
-      where
-        apart : (n ≡ at → ⊥) → at < n
-        apart d = omega arith
+    made : ℕ → ℕ → Bool → Bool → Walk
+    made l r b s = record { left = l; run = r; border = b; sound = s }
+
+both-true : (b : Bool) → b ≡ (b && true)
+both-true true = refl
+both-true false = refl
+
+both-false : (b : Bool) → false ≡ (b && false)
+both-false true = refl
+both-false false = refl
+
+pub walk-data : (places first : ℕ) (w : Walk) (store : List ℕ) (k j : ℕ) → j ≤ walk places first w store k .left
+    → walk places first w store (k + j)
+    ≡ record {
+      left = walk places first w store k .left - j;
+      run = walk places first w store k .run;
+      border = walk places first w store k .border && eqb j 0;
+      sound = walk places first w store k .sound;
+    }
+unfolding walk
+walk-data places first w store k zero h =
+    ap (walk places first w store) (add-zero k) ∙ same (walk places first w store k) _ (omega arith) refl (both-true (walk places first w store k .border)) refl
+walk-data places first w store k (suc j) h =
+    let i = walk-data places first w store k j (omega arith) in
+    let l = ap (λ (u : Walk). u .left) i in
+    let p = passed-data (flit-at store (place places first (k + j))) (walk places first w store (k + j)) (omega (arith, l)) in
+    ap (walk places first w store) (add-suc k j) ∙ p
+    ∙ same _ _ (omega (arith, l)) (ap (λ (u : Walk). u .run) i)
+    (both-false (walk places first w store k .border) ∙ sym (ap (λ (b : Bool). walk places first w store k .border && b) (ne-eqb (suc j) 0 (λ z. absurd (omega arith))))) (ap (λ (u : Walk). u .sound) i)

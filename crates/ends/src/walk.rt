@@ -2,10 +2,11 @@
 use crate::ring;
 use crate::state::End;
 use numbers::FlitCount;
+ghost use mathlib.Core.Bool.{_&&_};
 ghost use mathlib.Core.Path.{_≡_};
-ghost use Prim.Native.Nat.{_*_, _<_, _≤_};
+ghost use Prim.Native.Nat.{_-_, _*_, _<_, _≤_};
+ghost use lib.Dec.{eqb};
 ghost use lib.ListN.{length};
-ghost use Rattle.ends.specs.Choice.{pick};
 ghost use Rattle.ends.specs.Ring.{begun as begun-of, passed as passed-of, walked};
 
 // After some of the held flits: the data flits before the next control flit, the data flits of the unit last begun, whether a unit
@@ -61,30 +62,50 @@ pub fn cut_units(e: End, store: &[u8], cursor: FlitCount) -> Cut
     ensures { λ r. ⌜ r .cursor ≡ walked e (now (store .entry)) (cursor .0) ⌝ }
     ensures { λ r. ⌜ r .whole ≡ walked e (now (store .entry)) (e .held .0) ⌝ }
 {
-    let places = e.capacity.0;
-    let first = e.first;
-    let held = e.held.0;
     let at = cursor.0;
-    let mut w = begun(e.kept);
-    let mut met = w;
-    let mut n: usize = 0;
-    while n < held {
-        met = newest(n == at, w, met);
-        let from = ring::place(places, first, n) * 64;
-        let to = from + 64;
-        w = passed(&store[from..to], w);
-        n += 1;
-    }
-    met = newest(n == at, w, met);
+    let held = e.held.0;
+    let met = walk_on(e, store, begun(e.kept), 0, at);
+    let all = walk_on(e, store, met, at, held);
     Cut {
         cursor: met,
-        whole: w,
+        whole: all,
     }
 }
 
-// The walk here, or the one met before.
-fn newest(here: bool, w: Walk, met: Walk) -> Walk
-    ensures { λ r. ⌜ r ≡ pick here w met ⌝ }
+// The walk, continued from flit `start` to flit `end`. It goes from one control flit to the next: no data flit is read.
+fn walk_on(e: End, store: &[u8], begun: Walk, start: usize, end: usize) -> Walk
+    requires { ⌜ (length (now store) ≡ e .capacity .0 * 64) × (e .capacity .0 ≤ 1024) × (e .first < e .capacity .0) × (start ≤ end) × (end ≤ e .capacity .0) × (begun ≡ walked e (now store) start) ⌝ }
+    ensures { λ r. ⌜ r ≡ walked e (now (store .entry)) end ⌝ }
 {
-    if here { w } else { met }
+    let places = e.capacity.0;
+    let first = e.first;
+    let mut w = begun;
+    let mut n = start;
+    while n < end {
+        let data = w.left;
+        if 0 < data {
+            if end - n <= data {
+                return past_data(w, end - n);
+            }
+            n += data;
+        }
+        let from = ring::place(places, first, n) * 64;
+        let to = from + 64;
+        w = passed(&store[from..to], past_data(w, data));
+        n += 1;
+    }
+    w
+}
+
+// Past some of the data flits before the next control flit.
+fn past_data(w: Walk, flits: usize) -> Walk
+    requires { ⌜ flits ≤ w .left ⌝ }
+    ensures { λ r. ⌜ r ≡ record { left = w .left - flits; run = w .run; border = w .border && eqb flits 0; sound = w .sound } ⌝ }
+{
+    Walk {
+        left: w.left - flits,
+        run: w.run,
+        border: w.border & (flits == 0),
+        sound: w.sound,
+    }
 }
