@@ -98,14 +98,6 @@ module _ (e : End) (store unit : List ℕ) (admitted : verdict e store unit ≡ 
       ended : List ℕ → Bool → Walk
       ended c t = record { left = read run-length (content c); run = read run-length (content c); border = true; sound = t }
 
-  -- the walk up to the flits held before is as it was; past the new unit it stands on a border, with the run length of the unit's
-  -- control flit
-  pub walked-before : (n : ℕ) → n ≤ e .held .0 → walked (accept e store unit .end) after n ≡ walked e store n
-  walked-before n h = ap (λ (a : End). walked a after n) (admitted-end e store unit admitted) ∙ before n h
-
-  pub walked-after : walked (accept e store unit .end) after (e .held .0 + flits-of unit) ≡ on-border (control-of unit)
-  walked-after = ap (λ (a : End). walked a after (e .held .0 + flits-of unit)) (admitted-end e store unit admitted) ∙ grown
-
   -- an admitted call leaves a sound state
   more-units : units-sound (with-held (e .held .0 + flits-of unit) e) after ≡ true
   unfolding units-sound

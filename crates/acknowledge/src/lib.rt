@@ -2,7 +2,6 @@
 use ends::ring;
 use ends::state::End;
 use ends::walk;
-use ends::walk::Walk;
 use numbers::FlitCount;
 ghost use mathlib.Core.Path.{_≡_};
 ghost use Prim.Native.Nat.{_+_, _*_, _<_, _≤_};

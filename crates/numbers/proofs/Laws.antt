@@ -16,11 +16,6 @@ module _ (k : ℕ) where
   unfolding difference
   difference-lt a b = mod-lt (a + (2 ^ k - b)) (pow-pos k)
 
-  -- where nothing wraps, a step is a sum
-  pub after-small : (a n : ℕ) → a + n < 2 ^ k → after k a n ≡ a + n
-  unfolding after
-  after-small a n h = mod-eq-of-lt h
-
   -- m flits on and n flits on are m + n flits on
   pub after-after : (a m n : ℕ) → after k (after k a m) n ≡ after k a (m + n)
   unfolding after

@@ -299,8 +299,3 @@ module _ (e : End) (store hold flit : List ℕ) (fit : Fitting e) (its : store-i
   pub keeps-store : store-is (receive e store hold flit .end) (length store) ≡ true
   unfolding store-is
   keeps-store = rw (received-kept .capacity) its
-
-  pub stays-fitting : Fitting (receive e store hold flit .end)
-  stays-fitting =
-      let k = received-kept in
-      record { oldest = k .oldest; acknowledged = k .acknowledged; sent = k .sent }

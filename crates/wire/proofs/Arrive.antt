@@ -18,7 +18,7 @@ use Rattle.flits.specs.Flits.{bare-control}
 use Rattle.flits.specs.declared.Fields.{Fields}
 use Rattle.flits.proofs.Laws.{length-bytes}
 use Rattle.ends.specs.Choice.{pick}
-use Rattle.ends.specs.Ring.{flit-at, put-at, place}
+use Rattle.ends.specs.Ring.{put-at}
 use Rattle.ends.specs.declared.state.End.{End as KeptEnd}
 use Rattle.ends.specs.declared.state.Mode.the-variants.{Down}
 use Rattle.ends.proofs.Tests.{pick-true, pick-false}
@@ -31,7 +31,7 @@ use Rattle.receive.specs.Receive
 use Rattle.effects.specs.Effects.{waiting, discarded, idled, closed, delivered, nacked, end-after}
 use Rattle.receive.specs.Receive.{hold-after}
 use Rattle.link.specs.Stream.{Stream, owed, num, some, Flit, Item, part, control, idle, replay}
-use Rattle.link.specs.End.{run, wait, Sender, Receiver, End}
+use Rattle.link.specs.End.{run, wait, Receiver, End}
 use Rattle.link.specs.Step
 use Rattle.link.specs.Step.{item, again, more, enough, Receive, holds as holds-step, delivers, repeats, idling, damaged as damaged-step, discards}
 use Rattle.link.proofs.Num.{num-le}

@@ -439,9 +439,6 @@ module _ (Ok : Bool → Type 0) (f g : Stream) (store hold : List ℕ) (handed :
       by-burst o (x ∷ v ∷ w ∷ us) a b ea eb ar ok = absurd (ar .1 .1)
 
     -- ---- the whole of send
-    abbrev wrote : List ℕ
-    wrote = burst q store n errors information
-
     pub record Emitted (flits : List ℕ) (count : ℕ) (p : KeptEnd) : Type 0 where
       pub size : length flits ≡ count * 64
       pub follows : (vs : List (List ℕ)) → ArriveAll Arrives (units-of flits) vs → Oks Ok (passing (units-of flits) vs)

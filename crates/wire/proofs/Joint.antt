@@ -523,9 +523,6 @@ module _ (x y : Bool) (f g : Stream) (s : System) (j : Joint x y f g s) where
           }
 
   module _ (nx : Next) where
-    abbrev x′ : List ℕ
-    x′ = oldest-flit (s .ba)
-
     inv′ : Inv most f g (j .e) (j .p) (j .l) (nx .i ∷ nx .m′) (j .c) (j .d)
     inv′ = subst (λ (m : List Item). Inv most f g (j .e) (j .p) (j .l) m (j .c) (j .d)) (nx .eq) (j .inv)
 

@@ -1,8 +1,5 @@
 -- `measured::information_digest` is safe and ends. Assumes nothing.
-use mathlib.Core.Path.{_≡_, refl, _∙_}
 use Prim.Native.Nat.{_-_, _≤_}
-use native.Mathlib.Omega.{arith}
-use lib.ListN.{length}
 use borrow.Author.Needs.{needs}
 use Rattle.measured.proofs.information_digest.Statement.{statement}
 use Rattle.measured.proofs.information_digest.Tie as tie

@@ -1,7 +1,6 @@
 -- `script::digits::offset` meets its contract: a number as it is, more digits as the largest. Assumes nothing.
 use mathlib.Core.Bool.{true, false}
 use mathlib.Core.Path.{_≡_, sym, _∙_}
-use borrow.Author.Tests.{not-false}
 use borrow.Author.Needs.{needs}
 use Rattle.ends.proofs.Tests.{pick-true, pick-false}
 use Rattle.script.specs.Script.{value, is-decimal, is-number, offset-value}
