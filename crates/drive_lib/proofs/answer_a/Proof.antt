@@ -1,0 +1,35 @@
+-- `drive_lib::answer_a` meets its contract. Assumes nothing.
+use lib.ListN.{take}
+use Rattle.lines.specs.Lines.{kept-in, bytes-in}
+use Rattle.drive_lib.proofs.Steps.{goes-a}
+use borrow.Author.Needs.{needs}
+use Rattle.drive_lib.proofs.answer_a.Statement.{statement}
+use Rattle.drive_lib.proofs.answer_a.Tie as tie
+
+run-requires : tie.Need-run-requires
+run-requires c κs = search needs
+
+same-length : tie.Need-same-length
+same-length c = search needs
+
+same-length-2 : tie.Need-same-length-2
+same-length-2 c = search needs
+
+same-length-3 : tie.Need-same-length-3
+same-length-3 c = search needs
+
+same-length-4 : tie.Need-same-length-4
+same-length-4 c = search needs
+
+returns : tie.Need-returns
+returns c =
+    let a = c .before .before .before .before .before .before .before .before .before .before .before .before .before .before .before .before .before .before .before .args in
+    let p = c .before .before .before .before .before .before .before .before .before .before .before .before .before .before .before .before .before .before .before .pre in
+    let r = c .before .before .before .before .before .before .before .before .before .before .run in
+    λ other other' line.
+    goes-a (a .d) other other' line (a .command) (take (bytes-in (a .command)) (a .bytes .now)) (r .result .side) (r .last .1 .1 .1 .0) (r .last .1 .1 .1 .1 .0) (a .out .now) (a .at) (r .result .at) _ (p .1) (p .5) (p .6)
+    (kept-in (a .d .a) (a .store .now) (a .hold .now)) (p .1 .a) (r .ensures)
+
+pub answer-a-spec : {M : Type 1} → statement M
+answer-a-spec =
+    tie.close (tie.spec run-requires same-length same-length-2 same-length-3 same-length-4 returns)

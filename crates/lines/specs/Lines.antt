@@ -1,0 +1,175 @@
+-- What each command of a script does to an end, and the line that it prints. Assumes nothing.
+use mathlib.Core.Bool.{Bool, true, false, _&&_}
+use mathlib.Core.List.{List, [], _∷_, _++_}
+use mathlib.Core.Path.{_≡_}
+use Prim.Native.Nat.{ℕ, _*_, _≤_}
+use Prim.Native.String.{String}
+use lib.Dec.{eqb}
+use lib.ListN.{length, take, drop}
+use Rattle.text.specs.Text.{ascii, decimal, written, Puts}
+use Rattle.words.specs.Words.{answer-word}
+use Rattle.show.specs.Show.{hex, state-text, ticket-text}
+use Rattle.ends.specs.Choice.{pick}
+use Rattle.ends.specs.State.{verdict-number}
+use Rattle.answers.specs.Answers.{refusal-number, data-delivered}
+use Rattle.answers.specs.declared.Answer.{Answer}
+use Rattle.send.specs.Send.{refusal-number as send-refusal, flits-written}
+use Rattle.send.specs.declared.Answer.{Answer as SendAnswer}
+use Rattle.script.specs.Script.{most}
+use Rattle.script.specs.declared.Field.{Field}
+use Rattle.script.specs.declared.Key.{Key}
+use Rattle.script.specs.declared.Command.{Command}
+use Rattle.script.specs.declared.Command.the-variants as command
+use Rattle.sides.specs.declared.Side.{Side}
+use Rattle.sides.specs.Sides.{repeated, started, accepts, accepts-store, sends, sends-output, receives, receives-hold, pokes, fill-fits, lends, counts}
+
+-- ---- an end
+
+-- an end with its ticket, and its store and its hold, whole
+pub record Kept : Type 0 where
+  pub side : Side
+  pub store : List ℕ
+  pub hold : List ℕ
+
+-- what a command leaves, and its line
+pub record Did : Type 0 where
+  pub kept : Kept
+  pub line : List ℕ
+
+-- STATE
+abbrev pub state-of : Kept → List ℕ
+state-of k = state-text (k .side .end) (k .store) (k .hold)
+
+-- what comes before STATE, and STATE
+unfoldable pub stated : List ℕ → Kept → Did
+stated head k = record { kept = k; line = head ++ state-of k }
+
+-- a line that is no command, or has a value out of range, changes nothing
+abbrev pub bad-line : List ℕ
+bad-line = ascii "bad\n"
+
+unfoldable pub bad : Kept → Did
+bad k = record { kept = k; line = bad-line }
+
+-- ---- the commands: OP refuse=N [flits=K out=HEX] [answer=WORD data=K] STATE
+
+abbrev pub refuse : String → ℕ → List ℕ
+refuse op n = ascii op ++ decimal n
+
+unfoldable pub start-line : ℕ → Did
+start-line bytes =
+    stated (refuse "start refuse=" (verdict-number (started bytes .verdict)))
+    (record { side = started bytes .side; store = repeated bytes 0; hold = repeated 576 0 })
+
+unfoldable pub accept-line : Kept → List ℕ → Did
+accept-line k unit =
+    stated (refuse "accept refuse=" (verdict-number (accepts (k .side) (k .store) unit .verdict)))
+    (record { side = accepts (k .side) (k .store) unit .side; store = accepts-store (k .side) (k .store) unit; hold = k .hold })
+
+-- if a byte of the output past the flits is no longer 165, spill follows
+unfoldable pub untouched : List ℕ → Bool
+untouched [] = true
+untouched (b ∷ bytes) = eqb b 165 && untouched bytes
+
+unfoldable pub spill : List ℕ → List ℕ
+spill rest = pick (untouched rest) [] (ascii " spill")
+
+unfoldable pub send-head : SendAnswer → List ℕ → List ℕ
+send-head answer output =
+    refuse "send refuse=" (send-refusal answer) ++ (ascii " flits=" ++ decimal (flits-written answer)) ++ ascii " out="
+    ++ hex (take (flits-written answer * 64) output)
+    ++ spill (drop (flits-written answer * 64) output)
+
+unfoldable pub send-line : Kept → ℕ → ℕ → ℕ → Did
+send-line k output errors information =
+    stated (send-head (sends (k .side) (k .store) output .answer) (sends-output (k .side) (k .store) output errors information))
+    (record { side = sends (k .side) (k .store) output .side; store = k .store; hold = k .hold })
+
+unfoldable pub receive-head : Answer → List ℕ
+receive-head answer =
+    refuse "receive refuse=" (refusal-number answer) ++ ascii " answer=" ++ answer-word answer
+    ++ (ascii " data=" ++ decimal (data-delivered answer))
+
+unfoldable pub receive-line : Kept → List ℕ → Did
+receive-line k flit =
+    stated (receive-head (receives (k .side) (k .store) (k .hold) flit .answer))
+    (record {
+      side = receives (k .side) (k .store) (k .hold) flit .side;
+      store = k .store;
+      hold = receives-hold (k .side) (k .store) (k .hold) flit;
+    })
+
+unfoldable pub poke-line : Kept → Field → ℕ → Did
+poke-line k f v = stated (refuse "poke refuse=" 0) (record { side = pokes (k .side) f v; store = k .store; hold = k .hold })
+
+unfoldable pub fill-line : Kept → ℕ → List ℕ → Did
+fill-line k offset bytes =
+    pick (fill-fits (k .side .kept) offset (length bytes))
+    (stated (refuse "fill refuse=" 0) (record { side = k .side; store = written (k .store) offset bytes; hold = k .hold }))
+    (bad k)
+
+unfoldable pub lend-line : Kept → ℕ → ℕ → Did
+lend-line k store hold = stated (refuse "lend refuse=" 0) (record { side = lends (k .side) store hold; store = k .store; hold = k .hold })
+
+-- ticket prints the ticket and no state
+abbrev pub ticket-line : Side → List ℕ
+ticket-line s = ticket-text (s .ticket)
+
+unfoldable pub count-line : Kept → Key → ℕ → Did
+count-line k key n = stated (refuse "count refuse=" 0) (record { side = counts (k .side) key n; store = k .store; hold = k .hold })
+
+-- a command, with the bytes of its HEX
+unfoldable pub did : Kept → Command → List ℕ → Did
+did k command.Bad bytes = bad k
+did k (command.Start n) bytes = start-line n
+did k (command.Accept n) bytes = accept-line k bytes
+did k (command.Send n errors information) bytes = send-line k n errors information
+did k (command.Receive n) bytes = receive-line k bytes
+did k (command.Poke f v) bytes = poke-line k f v
+did k (command.Fill offset n) bytes = fill-line k offset bytes
+did k (command.Lend store hold) bytes = lend-line k store hold
+did k command.Ticket bytes = record { kept = k; line = ticket-line (k .side) }
+did k (command.Count key n) bytes = count-line k key n
+
+-- ---- what stands in the buffers
+
+-- the store is the first bytes of its buffer, and the hold the first 576 of its own
+abbrev pub kept-in : Side → List ℕ → List ℕ → Kept
+kept-in s store hold = record { side = s; store = take (s .kept) store; hold = take 576 hold }
+
+-- the store has at most 70,000 bytes, and at most so many are lent, and at most 2,000 of the hold
+pub record Sized (s : Side) : Type 0 where
+  pub kept : s .kept ≤ 70000
+  pub store : s .store ≤ 70000
+  pub hold : s .hold ≤ 2000
+
+-- what a command leaves stands in the buffers, and its line is put
+pub record Leaves (d : Did) (s : Side) (store hold out : List ℕ) (at next : ℕ) (after : List ℕ) : Type 0 where
+  pub kept : kept-in s store hold ≡ d .kept
+  pub line : Puts out at (d .line) next after
+
+-- the values of a command are in range
+unfoldable pub within : Command → Type 0
+within command.Bad = Unit
+within (command.Start n) = n ≤ 70000
+within (command.Accept n) = n ≤ 2000
+within (command.Send n errors information) = n ≤ 2000
+within (command.Receive n) = n ≤ 2000
+within (command.Poke f v) = v ≤ most f
+within (command.Fill offset n) = n ≤ 2000
+within (command.Lend store hold) = (store ≤ 70000) × (hold ≤ 2000)
+within command.Ticket = Unit
+within (command.Count key n) = Unit
+
+-- the number of bytes of a command's HEX
+unfoldable pub bytes-in : Command → ℕ
+bytes-in command.Bad = 0
+bytes-in (command.Start n) = 0
+bytes-in (command.Accept n) = n
+bytes-in (command.Send n errors information) = 0
+bytes-in (command.Receive n) = n
+bytes-in (command.Poke f v) = 0
+bytes-in (command.Fill offset n) = n
+bytes-in (command.Lend store hold) = 0
+bytes-in command.Ticket = 0
+bytes-in (command.Count key n) = 0

@@ -1,0 +1,165 @@
+-- What each command of a script does to an end, by what start, accept, send and receive are said to do. Assumes nothing.
+use mathlib.Core.Bool.{Bool, _||_}
+use mathlib.Core.List.{List, _++_}
+use Prim.Native.Nat.{ℕ, _+_, _-_}
+use lib.Dec.{leb, eqb}
+use lib.ListN.{length, take, drop, set, replicate}
+use Rattle.ends.specs.Choice.{pick}
+use Rattle.ends.specs.State.{start}
+use Rattle.ends.specs.Update.{with-information, with-first, with-held, with-kept, with-owed, with-gathered, with-untold, with-discards, with-oldest, with-cursor, with-sent, with-acknowledged, with-wanted, with-position, with-stalled, with-pending, with-cause, with-mode}
+use Rattle.ends.specs.declared.state.End.{End}
+use Rattle.ends.specs.declared.state.Mode.{Mode}
+use Rattle.ends.specs.declared.state.Mode.the-variants.{Run, Wait, Down}
+use Rattle.accept.specs.Accept.{accept, accept-store, flits-of}
+use Rattle.send.specs.Send.{send, send-output}
+use Rattle.receive.specs.Receive.{receive, receive-hold}
+use Rattle.ticket.specs.Ticket.{Call, nothing, after}
+use Rattle.ticket.specs.declared.Ticket.{Ticket}
+use Rattle.script.specs.declared.Field.{Field}
+use Rattle.script.specs.declared.Field.the-variants as field
+use Rattle.script.specs.declared.Key.{Key}
+use Rattle.script.specs.declared.Key.the-variants as key
+use Rattle.sides.specs.declared.Side.{Side}
+use Rattle.sides.specs.declared.Took.{Took}
+use Rattle.sides.specs.declared.Sent.{Sent}
+use Rattle.sides.specs.declared.Received.{Received}
+
+-- ---- buffers
+
+-- so many bytes alike
+unfoldable pub repeated : ℕ → ℕ → List ℕ
+repeated n b = replicate n b
+
+-- what is lent: the first bytes of the kept buffer, with fresh zeros after where it is shorter
+unfoldable pub lent : ℕ → List ℕ → List ℕ
+lent n kept = take n kept ++ repeated (n - length kept) 0
+
+-- the kept buffer after a call: what the call wrote past it is lost
+unfoldable pub kept-after : List ℕ → List ℕ → List ℕ
+kept-after after kept = take (length kept) after ++ drop (length after) kept
+
+-- ---- the operations
+
+-- a side with another state and ticket
+abbrev pub after-call : Side → End → Ticket → Side
+after-call s e t = record { end = e; kept = s .kept; store = s .store; hold = s .hold; ticket = t }
+
+-- a store of so many zeros, a hold of 576 and a ticket of zeros, both buffers lent at full length
+unfoldable pub started : ℕ → Took
+started bytes =
+    record {
+      side = record { end = start bytes .end; kept = bytes; store = bytes; hold = 576; ticket = nothing };
+      verdict = start bytes .verdict;
+    }
+
+unfoldable pub accepts : Side → List ℕ → List ℕ → Took
+accepts s store unit =
+    record {
+      side =
+          after-call s (accept (s .end) (lent (s .store) store) unit .end)
+          (after (s .ticket) (Call.accepts (accept (s .end) (lent (s .store) store) unit .verdict) (flits-of unit)));
+      verdict = accept (s .end) (lent (s .store) store) unit .verdict;
+    }
+
+unfoldable pub accepts-store : Side → List ℕ → List ℕ → List ℕ
+accepts-store s store unit = kept-after (accept-store (s .end) (lent (s .store) store) unit) store
+
+-- each byte of the output is 165 before the call
+unfoldable pub sends : Side → List ℕ → ℕ → Sent
+sends s store output =
+    record {
+      side = after-call s (send (s .end) (lent (s .store) store) output .end) (s .ticket);
+      answer = send (s .end) (lent (s .store) store) output .answer;
+    }
+
+unfoldable pub sends-output : Side → List ℕ → ℕ → ℕ → ℕ → List ℕ
+sends-output s store output errors information =
+    send-output (s .end) (lent (s .store) store) (repeated output 165) errors information
+
+unfoldable pub receives : Side → List ℕ → List ℕ → List ℕ → Received
+receives s store hold flit =
+    record {
+      side =
+          after-call s (receive (s .end) (lent (s .store) store) (lent (s .hold) hold) flit .end)
+          (after (s .ticket) (Call.receives (receive (s .end) (lent (s .store) store) (lent (s .hold) hold) flit .answer)));
+      answer = receive (s .end) (lent (s .store) store) (lent (s .hold) hold) flit .answer;
+    }
+
+unfoldable pub receives-hold : Side → List ℕ → List ℕ → List ℕ → List ℕ
+receives-hold s store hold flit = kept-after (receive-hold (s .end) (lent (s .store) store) (lent (s .hold) hold) flit) hold
+
+-- ---- what calls no operation
+
+-- the state with a field set, by the names of the output line; 0 run, 1 wait, 2 down
+unfoldable pub mode-of : ℕ → Mode
+mode-of n = pick (eqb n 0) Run (pick (eqb n 1) Wait Down)
+
+abbrev pub with-capacity : ℕ → End → End
+with-capacity v e =
+    record {
+      information = e .information;
+      capacity = record { 0 = v };
+      first = e .first;
+      held = e .held;
+      kept = e .kept;
+      owed = e .owed;
+      gathered = e .gathered;
+      untold = e .untold;
+      discards = e .discards;
+      oldest = e .oldest;
+      cursor = e .cursor;
+      sent = e .sent;
+      acknowledged = e .acknowledged;
+      wanted = e .wanted;
+      position = e .position;
+      stalled = e .stalled;
+      pending = e .pending;
+      cause = e .cause;
+      mode = e .mode;
+    }
+
+unfoldable pub poked : End → Field → ℕ → End
+poked e field.Capacity v = with-capacity v e
+poked e field.First v = with-first v e
+poked e field.Held v = with-held v e
+poked e field.Kept v = with-kept v e
+poked e field.Oldest v = with-oldest v e
+poked e field.Cursor v = with-cursor v e
+poked e field.Sent v = with-sent v e
+poked e field.Acked v = with-acknowledged v e
+poked e field.Wanted v = with-wanted v e
+poked e field.Position v = with-position v e
+poked e field.Owed v = with-owed v e
+poked e field.Stalled v = with-stalled (eqb v 1) e
+poked e field.Data v = with-gathered v e
+poked e field.Untold v = with-untold v e
+poked e field.Mode v = with-mode (mode-of v) e
+poked e field.Cause v = with-cause v e
+poked e field.Discards v = with-discards v e
+poked e field.Pending v = with-pending (eqb v 1) e
+poked e (field.Info i) v = with-information (set (e .information) i v) e
+
+unfoldable pub pokes : Side → Field → ℕ → Side
+pokes s f v = after-call s (poked (s .end) f v) (s .ticket)
+
+-- bytes all inside a store of so many
+unfoldable pub fill-fits : ℕ → ℕ → ℕ → Bool
+fill-fits kept offset bytes = eqb bytes 0 || leb (offset + bytes) kept
+
+unfoldable pub lends : Side → ℕ → ℕ → Side
+lends s store hold = record { end = s .end; kept = s .kept; store = store; hold = hold; ticket = s .ticket }
+
+abbrev pub with-count : Ticket → Key → ℕ → Ticket
+with-count t key.Accepted n =
+    record { accepted = n; delivered = t .delivered; damaged = t .damaged; duplicate = t .duplicate; downs = t .downs }
+with-count t key.Delivered n =
+    record { accepted = t .accepted; delivered = n; damaged = t .damaged; duplicate = t .duplicate; downs = t .downs }
+with-count t key.Damaged n =
+    record { accepted = t .accepted; delivered = t .delivered; damaged = n; duplicate = t .duplicate; downs = t .downs }
+with-count t key.Duplicate n =
+    record { accepted = t .accepted; delivered = t .delivered; damaged = t .damaged; duplicate = n; downs = t .downs }
+with-count t key.Downs n =
+    record { accepted = t .accepted; delivered = t .delivered; damaged = t .damaged; duplicate = t .duplicate; downs = n }
+
+unfoldable pub counts : Side → Key → ℕ → Side
+counts s k n = after-call s (s .end) (with-count (s .ticket) k n)
