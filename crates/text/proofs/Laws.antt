@@ -8,7 +8,7 @@ use native.Mathlib.Nat.{suc-add, add-suc, add-zero, div-lt-iff-lt-mul, pow-suc}
 use native.Mathlib.Omega.{arith}
 use lib.Dec.{ltb}
 use lib.ListN.{length, set, take, drop, getD, length-append, length-take, length-set}
-use lib.Seq.{sets, sets-eq, take-suc, take-at}
+use lib.Seq.{sets, length-sets, sets-eq, take-suc, take-at}
 use borrow.Author.Tests.{lt-ltb, le-ltb, ltb-true, ltb-false}
 use Rattle.text.specs.Text.{digit, digits, decimal, written, Puts}
 
@@ -23,6 +23,10 @@ sets-append (x ∷ a) b l i =
 pub written-more : (out : List ℕ) (at : ℕ) (a b : List ℕ) → written (written out at a) (at + length a) b ≡ written out at (a ++ b)
 unfolding written
 written-more out at a b = sets-append a b out at
+
+pub length-written : (out : List ℕ) (at : ℕ) (text : List ℕ) → length (written out at text) ≡ length out
+unfolding written
+length-written out at text = length-sets out at text
 
 pub written-none : (out : List ℕ) (at : ℕ) → written out at [] ≡ out
 unfolding written
