@@ -2,7 +2,7 @@
 use mathlib.Core.Bool.{Bool, true, false, _&&_}
 use mathlib.Core.List.{List, [], _∷_, _++_}
 use mathlib.Core.Path.{_≡_, refl, ap, ap₂, sym, subst, _∙_}
-use Prim.Native.Nat.{ℕ, suc, _+_, _-_, _≤_, _<_}
+use Prim.Native.Nat.{ℕ, _+_, _-_, _≤_, _<_}
 use native.Mathlib.Nat.{sub-zero}
 use native.Mathlib.Numerals.{add-one}
 use native.Mathlib.Omega.{arith}
@@ -12,7 +12,6 @@ use lib.ListN.{length, take, set, getD}
 use lib.Seq.{length-take-le, take-suc-set}
 use Rattle.text.specs.Text.{Puts}
 use Rattle.text.proofs.Laws.{puts-more, puts-as, written-none}
-use Rattle.ends.specs.Choice.{pick}
 use Rattle.ends.proofs.Tests.{and-true, pick-true, pick-false}
 use Rattle.script.specs.Script.{tokens, last, line-of, bytes-of, over}
 use Rattle.script.specs.declared.Which.{Which}

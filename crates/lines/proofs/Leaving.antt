@@ -1,5 +1,5 @@
 -- What a command leaves, from what its functions say: the side with its buffers, and the text before STATE. Assumes nothing.
-use mathlib.Core.Bool.{Bool, true, false, _&&_}
+use mathlib.Core.Bool.{true, false, _&&_}
 use mathlib.Core.List.{List, [], _++_}
 use mathlib.Core.Path.{_≡_, refl, ap, ap₂, sym, subst, _∙_}
 use Prim.Native.Nat.{ℕ, suc, _+_, _*_, _≤_, _<_}
@@ -13,7 +13,6 @@ use Rattle.text.specs.Text.{ascii, decimal, written, Puts}
 use Rattle.text.proofs.Laws.{puts-as, written-none}
 use Rattle.words.specs.Words.{answer-word}
 use Rattle.show.specs.Show.{hex}
-use Rattle.ends.specs.Choice.{pick}
 use Rattle.ends.proofs.Tests.{pick-true, pick-false}
 use Rattle.answers.specs.Answers.{refusal-number, data-delivered}
 use Rattle.answers.specs.declared.Answer.{Answer}

@@ -1,16 +1,13 @@
 -- How long the parts of a line are, and that the flits written are inside the output. Assumes nothing.
-use mathlib.Core.Bool.{Bool, true, false}
 use mathlib.Core.List.{List, [], _++_}
-use mathlib.Core.Path.{_≡_, refl, ap, sym, subst, _∙_}
-use Prim.Native.Nat.{ℕ, _+_, _*_, _≤_}
+use mathlib.Core.Path.{_≡_, refl}
+use Prim.Native.Nat.{ℕ, _*_, _≤_}
 use native.Mathlib.Omega.{arith}
 use lib.ListN.{length, take, drop, length-append, length-take}
 use Rattle.text.specs.Text.{ascii, decimal, written}
 use Rattle.text.proofs.Laws.{length-decimal}
 use Rattle.words.proofs.Laws.{answer-short}
-use Rattle.show.specs.Show.{hex}
 use Rattle.show.proofs.Laws.{hex-short, state-short, ticket-short}
-use Rattle.ends.specs.Choice.{pick}
 use Rattle.ends.specs.Refusals.{run-at-cursor}
 use Rattle.ends.specs.declared.state.End.{End}
 use Rattle.ends.specs.declared.state.Verdict.{Verdict}

@@ -1,6 +1,5 @@
 -- A command with its values in range leaves a side as it may be. Assumes nothing.
 use mathlib.Core.List.{List}
-use mathlib.Core.Path.{_≡_}
 use Prim.Native.Nat.{ℕ, _≤_}
 use native.Mathlib.Omega.{arith}
 use lib.ListN.{length}
@@ -9,7 +8,6 @@ use Rattle.ends.proofs.Tests.{pick-either}
 use Rattle.script.specs.declared.Command.{Command}
 use Rattle.script.specs.declared.Command.the-variants as command
 use Rattle.sides.specs.Sides.{started, accepts, sends, receives, pokes, fill-fits, lends, counts}
-use Rattle.sides.specs.declared.Side.{Side}
 use Rattle.lines.specs.Lines.{Kept, Did, stated, bad, refuse, start-line, accept-line, send-line, receive-line, poke-line, fill-line, lend-line, count-line, did, Sized, within}
 
 stated-sized : (head : List ℕ) (k : Kept) → Sized (k .side) → Sized (stated head k .kept .side)

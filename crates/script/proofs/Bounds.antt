@@ -5,7 +5,7 @@ use mathlib.Core.List.{List, [], _∷_}
 use mathlib.Core.Path.{_≡_, refl, ap, sym, subst, _∙_}
 use Prim.Native.Nat.{ℕ, _≤_}
 use native.Mathlib.Omega.{arith}
-use lib.ListN.{length, take, drop, length-append, length-drop}
+use lib.ListN.{length, take, drop}
 use lib.Seq.{take-append-seam}
 use Rattle.text.specs.Text.{ascii}
 use Rattle.ends.specs.Choice.{pick}
@@ -166,39 +166,12 @@ carried-count (command.Lend store hold) hex h = refl
 carried-count command.Ticket hex h = refl
 carried-count (command.Count k v) hex h = refl
 
-count-few : (c : Command) (hex : List ℕ) → Within c hex → byte-count c ≤ 2000
-count-few command.Bad hex h = omega arith
-count-few (command.Start len) hex h = omega arith
-count-few (command.Accept n) hex h = h .0
-count-few (command.Send len errors info) hex h = omega arith
-count-few (command.Receive n) hex h = h .0
-count-few (command.Poke f v) hex h = omega arith
-count-few (command.Fill offset n) hex h = h .1
-count-few (command.Lend store hold) hex h = omega arith
-count-few command.Ticket hex h = omega arith
-count-few (command.Count k v) hex h = omega arith
-
 pub length-bytes : (line : List ℕ) (c : Command) → line-of line .command ≡ c → length (bytes-of line) ≡ byte-count c
 unfolding bytes-of
 length-bytes line c e =
     ap (λ (d : Command). length (carried d (last (tokens line)))) e ∙ carried-count c (last (tokens line)) (command-fits line c e)
 
-pub bytes-few : (line : List ℕ) → length (bytes-of line) ≤ 2000
-bytes-few line =
-    let c = line-of line .command in
-    omega (arith, length-bytes line c refl, count-few c (last (tokens line)) (command-fits line c refl))
-
--- a command without HEX leaves the buffer as it was
-pub over-empty : (bytes buffer : List ℕ) → length bytes ≡ 0 → over bytes buffer ≡ buffer
-unfolding over
-over-empty [] buffer h = refl
-over-empty (x ∷ bytes) buffer h = absurd (omega arith)
-
--- the first places of the buffer are the bytes, and it is as long as before
+-- the first places of the buffer are the bytes
 pub over-front : (bytes buffer : List ℕ) (n : ℕ) → length bytes ≡ n → take n (over bytes buffer) ≡ bytes
 unfolding over
 over-front bytes buffer n h = rw (sym h) (take-append-seam bytes (drop (length bytes) buffer))
-
-pub length-over : (bytes buffer : List ℕ) → length bytes ≤ length buffer → length (over bytes buffer) ≡ length buffer
-unfolding over
-length-over bytes buffer h = simp (length-append, length-drop) (omega arith)

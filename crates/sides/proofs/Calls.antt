@@ -3,7 +3,6 @@ use mathlib.Core.List.{List}
 use mathlib.Core.Path.{_≡_, refl}
 use Prim.Native.Nat.{ℕ}
 use Rattle.ends.specs.State.{start}
-use Rattle.ends.specs.declared.state.End.{End}
 use Rattle.ends.specs.declared.state.Started.{Started}
 use Rattle.accept.specs.Accept.{accept, flits-of}
 use Rattle.accept.specs.declared.Accepted.{Accepted}

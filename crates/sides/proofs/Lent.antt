@@ -7,8 +7,8 @@ use native.Mathlib.Numerals.{add-one}
 use native.Mathlib.Omega.{arith}
 use borrow.Author.Tests.{ltb-true, ltb-false, le-leb, lt-leb, ne-eqb}
 use borrow.Rule.Slice.PartMut.{putMid, mid-len}
-use lib.Dec.{ltb, leb, eqb}
-use lib.ListN.{length, take, drop, set, getD, length-append, length-replicate, length-drop, drop-of-length-le, replicate-append-replicate}
+use lib.Dec.{ltb}
+use lib.ListN.{length, take, drop, set, getD, length-append, length-replicate, drop-of-length-le, replicate-append-replicate}
 use lib.Seq.{length-take-le, take-all, drop-cons, append-snoc, set-at, take-at, drop-at, take-take, take-add, take-append-le, take-append-add}
 use native.Mathlib.Nat.{sub-zero}
 use Rattle.text.specs.Text.{written}

@@ -1,8 +1,7 @@
 -- `drive_lib::end_line` meets its contract: too long a line is bad, and any other is read and answered. Assumes nothing.
 use mathlib.Core.List.{List}
-use mathlib.Core.Path.{_≡_, ap, _∙_}
+use mathlib.Core.Path.{ap, _∙_}
 use Prim.Native.Nat.{ℕ, _-_}
-use native.Mathlib.Omega.{arith}
 use lib.ListN.{take}
 use Rattle.script.specs.declared.Which.the-variants as which
 use Rattle.lines.specs.Lines.{kept-in, bytes-in}

@@ -1,5 +1,4 @@
 -- `drive_lib::feed` meets its contract: after some turns, what is kept and the output are as after so many bytes. Assumes nothing.
-use mathlib.Core.Bool.{_&&_}
 use mathlib.Core.Path.{_≡_, refl, _∙_}
 use Prim.Native.Nat.{_+_, _-_, _^_, _≤_, _<_}
 use native.Mathlib.Omega.{arith}

@@ -1,6 +1,5 @@
 -- `lines::put_send` meets its contract: five texts, one after the other. Assumes nothing.
-use mathlib.Core.Path.{ap, ap₂, sym, _∙_}
-use mathlib.Core.List.{List}
+use mathlib.Core.Path.{ap, _∙_}
 use Prim.Native.Nat.{ℕ, _*_, _-_}
 use native.Mathlib.Nat.{sub-zero}
 use native.Mathlib.Omega.{arith}
@@ -9,7 +8,6 @@ use lib.Seq.{take-all}
 use Rattle.text.specs.Text.{ascii}
 use Rattle.text.proofs.Laws.{puts-more, puts-as, length-decimal, field-end}
 use Rattle.show.proofs.Laws.{hex-short}
-use Rattle.send.specs.Send.{flits-written}
 use Rattle.lines.proofs.Leaving.{send-head-is}
 use borrow.Author.Needs.{needs}
 use Rattle.lines.proofs.put_send.Statement.{statement}

@@ -1,7 +1,5 @@
 -- `lines::receive` meets its contract. Assumes nothing.
-use mathlib.Core.List.{List, _++_}
 use mathlib.Core.Path.{_≡_, ap, _∙_}
-use Prim.Native.Nat.{ℕ}
 use native.Mathlib.Omega.{arith}
 use lib.ListN.{take}
 use Rattle.text.proofs.Laws.{puts-more}

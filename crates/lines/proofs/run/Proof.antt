@@ -1,12 +1,12 @@
 -- `lines::run` meets its contract, command by command. Assumes nothing.
-use mathlib.Core.Path.{_≡_, refl, ap, sym, subst, _∙_}
+use mathlib.Core.Path.{refl, ap, subst, _∙_}
 use Prim.Native.Nat.{ℕ, _-_}
 use native.Mathlib.Nat.{sub-zero}
 use native.Mathlib.Omega.{arith}
-use lib.ListN.{length, take, length-take}
+use lib.ListN.{take, length-take}
 use lib.Seq.{length-take-le}
 use Rattle.script.specs.declared.Command.{Command}
-use Rattle.lines.specs.Lines.{kept-in, within, bytes-in, did, bad, start-line, accept-line, send-line, receive-line, poke-line, fill-line, lend-line, ticket-line, count-line}
+use Rattle.lines.specs.Lines.{kept-in, within, bytes-in, did, bad, accept-line, send-line, receive-line, fill-line, ticket-line}
 use Rattle.lines.proofs.Leaving.{keeps, leaves-bad, leaves-did}
 use borrow.Author.Needs.{needs}
 use Rattle.lines.proofs.run.Statement.{statement}

@@ -1,12 +1,12 @@
 -- `lines::send` meets its contract. Assumes nothing.
-use mathlib.Core.List.{List, _++_}
-use mathlib.Core.Path.{_≡_, refl, ap, ap₂, subst, sym, _∙_}
+use mathlib.Core.List.{List}
+use mathlib.Core.Path.{_≡_, refl, ap, ap₂, subst, sym}
 use Prim.Native.Nat.{ℕ, _*_, _≤_}
 use native.Mathlib.Omega.{arith}
 use lib.ListN.{length, take}
 use Rattle.text.proofs.Laws.{puts-more}
 use Rattle.send.specs.Send.{flits-written}
-use Rattle.sides.specs.Sides.{sends, sends-output}
+use Rattle.sides.specs.Sides.{sends}
 use Rattle.sides.specs.declared.Sent.{Sent}
 use Rattle.lines.specs.Lines.{send-head, send-line}
 use Rattle.lines.proofs.Leaving.{keeps, leaves-stated}

@@ -6,7 +6,6 @@ use native.Mathlib.Omega.{arith}
 use Rattle.text.specs.Text.{ascii, decimal}
 use Rattle.ends.specs.State.{verdict-number}
 use Rattle.sides.specs.Sides.{repeated, started}
-use Rattle.sides.specs.declared.Side.{Side}
 use Rattle.sides.specs.declared.Took.{Took}
 use Rattle.lines.specs.Lines.{refuse, start-line}
 use Rattle.lines.proofs.Leaving.{keeps, leaves-stated}

@@ -1,12 +1,11 @@
 -- `sides::state::poked` meets its contract, field by field. Assumes nothing.
-use mathlib.Core.Path.{_≡_, sym, ap, subst, _∙_}
-use Prim.Native.Nat.{ℕ, _≤_, _<_}
+use mathlib.Core.Path.{sym, ap, subst, _∙_}
+use Prim.Native.Nat.{ℕ, _≤_}
 use native.Mathlib.Omega.{arith}
 use Rattle.script.specs.Script.{most}
 use Rattle.script.specs.declared.Field.{Field}
 use mathlib.Core.List.{List}
 use Rattle.ends.specs.Update.{with-mode, with-information}
-use Rattle.ends.specs.declared.state.End.{End}
 use Rattle.ends.specs.declared.state.Mode.{Mode}
 use Rattle.sides.specs.Sides.{poked}
 use borrow.Author.Needs.{needs}
