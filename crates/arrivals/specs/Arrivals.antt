@@ -39,8 +39,8 @@ checked e hold flit = checked-in (e .mode) e hold flit
 -- ---- 1. damaged
 
 -- a closing flit's run length over 8, or under 9 while stalled
-unfoldable pub length-wrong : End → Fields → Bool
-length-wrong e f = (closes e && ltb 8 (f .run .0)) || (e .stalled && ltb (f .run .0) 9)
+unfoldable pub run-wrong : End → Fields → Bool
+run-wrong e f = (closes e && ltb 8 (f .run .0)) || (e .stalled && ltb (f .run .0) 9)
 
 -- an idle's stalled run length differs from owed
 unfoldable pub stall-wrong : End → Fields → Bool
@@ -56,7 +56,7 @@ straddles e f =
     leb (f .run .0) 8 && ltb 0 (behind e (e .position .0)) && ltb (behind e (e .position .0)) (e .gathered .0 + 1)
 
 unfoldable pub damaged : End → Fields → Bool → Bool
-damaged e f correct = not correct || length-wrong e f || stall-wrong e f || straddles e f
+damaged e f correct = not correct || run-wrong e f || stall-wrong e f || straddles e f
 
 -- ---- 2. skipped
 unfoldable pub skips : Fields → Bool

@@ -49,8 +49,8 @@ informed information e = with-information (information ∷ take 7 (e .informatio
 abbrev pub nacked : Bool → End → End
 nacked nack e = pick nack (sent-anew e) e
 
-unfoldable pub replaced : End → List ℕ → Fields → End
-replaced e store f =
+unfoldable pub replay-taken : End → List ℕ → Fields → End
+replay-taken e store f =
     with-position (f .start .0)
     (with-gathered 0
     (with-owed (f .previous .0)
@@ -70,6 +70,6 @@ end-after (answer.Down cause) e store f = down cause e
 end-after (answer.Delivered n) e store f = delivered e store f
 end-after answer.Duplicate e store f = closed e store f
 end-after answer.Idle e store f = idled e store f
-end-after answer.Replayed e store f = with-mode Run (with-discards 0 (replaced e store f))
-end-after answer.Ahead e store f = ahead-in (e .mode) (replaced e store f)
+end-after answer.Replayed e store f = with-mode Run (with-discards 0 (replay-taken e store f))
+end-after answer.Ahead e store f = ahead-in (e .mode) (replay-taken e store f)
 end-after answer.Discarded e store f = discarded e
