@@ -23,14 +23,6 @@ last-border places first w store (suc n) = pick (walk places first w store (suc 
 abbrev pub freed-by : End → List ℕ → ℕ → ℕ
 freed-by e store n = last-border (e .capacity .0) (e .first) (begun (e .kept .0)) store (acknowledged-at e + n)
 
--- what the functions that free flits ask: the store is the ring, and the n flits more are held
-pub record Covered (e : End) (store : List ℕ) (n : ℕ) : Type 0 where
-  pub bytes : length store ≡ e .capacity .0 * 64
-  pub most : e .capacity .0 ≤ 1024
-  pub first : e .first < e .capacity .0
-  pub held : e .held .0 ≤ e .capacity .0
-  pub covered : acknowledged-at e + n ≤ e .held .0
-
 -- the first place moves past them
 unfoldable pub freed : End → List ℕ → ℕ → End
 freed e store flits =
@@ -46,3 +38,11 @@ unfoldable pub acknowledged : End → List ℕ → ℕ → End
 acknowledged e store n =
     pick (ltb (cursor-at e) (freed-by e store n)) (sent-anew (freed (with-acknowledged (after width (e .acknowledged .0) n) e) store (freed-by e store n)))
     (freed (with-acknowledged (after width (e .acknowledged .0) n) e) store (freed-by e store n))
+
+-- what the functions that free flits ask: the store is the ring, and the n flits more are held
+pub record Covered (e : End) (store : List ℕ) (n : ℕ) : Type 0 where
+  pub bytes : length store ≡ e .capacity .0 * 64
+  pub most : e .capacity .0 ≤ 1024
+  pub first : e .first < e .capacity .0
+  pub held : e .held .0 ≤ e .capacity .0
+  pub covered : acknowledged-at e + n ≤ e .held .0
