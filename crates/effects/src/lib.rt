@@ -13,7 +13,7 @@ ghost use Rattle.ends.specs.Update.{with-mode as with-mode-of, with-gathered};
 ghost use Rattle.ends.specs.Refusals.{store-is, sound};
 ghost use Rattle.arrivals.specs.Arrivals.{newly-covered};
 ghost use Rattle.answers.specs.Answers.{mode-answer};
-ghost use Rattle.effects.specs.Effects.{waiting as waiting-of, discarded as discarded-of, down as down-of, idled as idled-of, closed as closed-of, delivered as delivered-of, informed as informed-of, nacked as nacked-of, replay-taken as replay-taken-of, ahead-in, end-after as end-after-of};
+ghost use Rattle.effects.specs.Effects.{waiting as waiting-of, discarded as discarded-of, down as down-of, idled as idled-of, closed as closed-of, delivered as delivered-of, informed as informed-of, replay-taken as replay-taken-of, ahead-in, end-after as end-after-of};
 ghost use Rattle.acknowledge.specs.Acknowledge.{Covered};
 
 // The end in another mode.
@@ -147,7 +147,7 @@ fn replay_taken(e: End, store: &[u8], f: Fields) -> End
 {
     let covered = arrivals::newly_covered(e, f);
     let told = acknowledge::acknowledged(e, store, covered);
-    let mut next = nacked(informed(told, f.information), f.nack);
+    let mut next = acknowledge::sent_anew(informed(told, f.information), f.nack);
     let none = FlitCount(0);
     let owed = f.previous;
     let position = f.start;
@@ -156,13 +156,6 @@ fn replay_taken(e: End, store: &[u8], f: Fields) -> End
     next.gathered = none;
     next.position = position;
     next
-}
-
-// NACK sets the cursor to the oldest unit and replay pending.
-fn nacked(e: End, nack: bool) -> End
-    ensures { λ r. ⌜ r ≡ nacked-of nack e ⌝ }
-{
-    if nack { acknowledge::sent_anew(e) } else { e }
 }
 
 // Ahead: as damage in mode run, as one more discarded in mode wait.

@@ -204,7 +204,7 @@ module _ (e : End) (store : List ℕ) (f : Fields) (fit : Fitting e) (its : stor
         untold-in = omega (arith, r .untold-in, a .untold);
         discards-in = omega (arith, r .discards-in, a .discards);
       } in
-      pick-either (λ (y : End). Kept e (finished y) store) (f .nack) (sent-anew x) x
+      pick-either (λ (y : End). Kept e (finished y) store) (f .nack) (sent-anew true x) x
       (λ t.
       record {
         sends = anew-sends x store (a .oldest) s;

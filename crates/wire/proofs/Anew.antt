@@ -24,8 +24,8 @@ use Rattle.arrivals.specs.Arrivals.{behind, newly-covered, past-sent}
 use Rattle.answers.specs.Answers.{half, replay-answer}
 use Rattle.answers.specs.declared.Answer.{Answer}
 use Rattle.answers.specs.declared.Answer.the-variants as answer
-use Rattle.acknowledge.specs.Acknowledge.{acknowledged}
-use Rattle.effects.specs.Effects.{waiting, discarded, informed, nacked, replay-taken, ahead-in, end-after}
+use Rattle.acknowledge.specs.Acknowledge.{sent-anew, acknowledged}
+use Rattle.effects.specs.Effects.{waiting, discarded, informed, replay-taken, ahead-in, end-after}
 use Rattle.receive.specs.Receive.{hold-after}
 use Rattle.link.specs.Stream.{Stream, owed, num, replay}
 use Rattle.link.specs.End.{Mode, run, wait, down, End}
@@ -90,11 +90,11 @@ module _ (f g : Stream) (store : List ℕ) (e : End) (d : Chain) (q : KeptEnd) (
           (credits f store (e .s) q (w .own) st fo (t - e .s .acked) le))
 
       abbrev asked : KeptEnd
-      asked = nacked (x .nack) (informed (x .information) told)
+      asked = sent-anew (x .nack) (informed (x .information) told)
 
       asked-stands : Stands f store (Step.nacked na (c .t)) asked
       asked-stands =
-          subst (λ (z : Bool). Stands f store (Step.nacked na (c .t)) (nacked z (informed (x .information) told))) (sym (s .nack))
+          subst (λ (z : Bool). Stands f store (Step.nacked na (c .t)) (sent-anew z (informed (x .information) told))) (sym (s .nack))
           (nacked-stands f store (c .t) (informed (x .information) told) na
           (restand f store (c .t) told _ refl (c .stands)))
 

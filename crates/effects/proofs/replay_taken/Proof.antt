@@ -2,8 +2,8 @@ use mathlib.Core.Path.{ap, _∙_, sym, subst}
 use Prim.Native.Nat.{ℕ}
 use borrow.Author.Needs.{needs}
 use Rattle.effects.proofs.Steps.{replay-taken-is}
-use Rattle.effects.specs.Effects.{informed, nacked}
-use Rattle.acknowledge.specs.Acknowledge.{acknowledged, Covered}
+use Rattle.effects.specs.Effects.{informed}
+use Rattle.acknowledge.specs.Acknowledge.{sent-anew, acknowledged, Covered}
 use Rattle.effects.proofs.replay_taken.Statement.{statement}
 use Rattle.effects.proofs.replay_taken.Tie as tie
 
@@ -16,15 +16,15 @@ acknowledged-requires c κs = subst (λ (n : ℕ). Covered (c .before .before .a
 informed-requires : tie.Need-informed-requires
 informed-requires c κs = search needs
 
-nacked-requires : tie.Need-nacked-requires
-nacked-requires c κs = search needs
+sent-anew-requires : tie.Need-sent-anew-requires
+sent-anew-requires c κs = search needs
 
 returns : tie.Need-returns
 returns c =
     let a = c .before .before .before .before .before .before .before .args in
-    replay-taken-is (a .e) (a .store .now) (a .f) (c .before .before .nacked .result)
-    (c .before .before .nacked .ensures
-    ∙ ap (nacked (a .f .nack))
+    replay-taken-is (a .e) (a .store .now) (a .f) (c .before .before .sent-anew .result)
+    (c .before .before .sent-anew .ensures
+    ∙ ap (sent-anew (a .f .nack))
     (c .before .before .before .informed .ensures
     ∙ ap (informed (a .f .information))
     (c .before .before .before .before .acknowledged .ensures ∙ ap (acknowledged (a .e) (a .store .now)) (c .before .before .before .before .before .newly-covered .ensures))))
@@ -36,5 +36,5 @@ replay-taken-spec =
     newly-covered-requires
     acknowledged-requires
     informed-requires
-    nacked-requires
+    sent-anew-requires
     returns)
