@@ -5,15 +5,17 @@ use ends::state::Mode;
 use flits::Fields;
 use numbers::FlitCount;
 ghost use mathlib.Core.Path.{_≡_};
+ghost use mathlib.Core.Bool.{_&&_};
 ghost use Prim.Native.Nat.{_≤_, _*_};
 ghost use lib.ListN.{length};
 ghost use Rattle.crc.specs.Register.{table};
 ghost use Rattle.crc.specs.Unit.{right};
-ghost use Rattle.arrivals.specs.Arrivals.{newly-covered as newly-covered-of, past-sent as past-sent-of, holds as holds-of, held-in, closes as closes-of, checked, run-wrong as run-wrong-of, stall-wrong as stall-wrong-of, straddles as straddles-of, damaged as damaged-of, skips as skips-of};
+ghost use Rattle.ends.specs.State.{is-run};
+ghost use Rattle.arrivals.specs.Arrivals.{newly-covered as newly-covered-of, past-sent as past-sent-of, holds as holds-of, closes as closes-of, checked, run-wrong as run-wrong-of, stall-wrong as stall-wrong-of, straddles as straddles-of, damaged as damaged-of, skips as skips-of};
 
 // In mode run, not stalled and data owed: the flit is held.
 pub fn is_held(e: End) -> bool
-    ensures { λ r. ⌜ r ≡ held-in (e .mode) e ⌝ }
+    ensures { λ r. ⌜ r ≡ (is-run (e .mode) && holds-of e) ⌝ }
 {
     let mode = e.mode;
     match mode {

@@ -66,6 +66,11 @@ start bytes =
     (record { verdict = Refused refusal.Store; end = fresh 0 })
 
 -- tests of the mode
+abbrev pub is-run : Mode → Bool
+is-run Run = true
+is-run Wait = false
+is-run Down = false
+
 abbrev pub is-wait : Mode → Bool
 is-wait Run = false
 is-wait Wait = true
