@@ -10,6 +10,7 @@ use lib.ListN.{take}
 use Rattle.crc.specs.Unit.{right}
 use Rattle.flits.specs.Fields.{fields-of, replay as replay-run, idle as idle-run}
 use Rattle.ends.specs.Choice.{pick}
+use Rattle.ends.specs.State.{is-run}
 use Rattle.ends.specs.declared.state.End.{End as KeptEnd}
 use Rattle.ends.specs.declared.state.Mode.{Mode as KeptMode}
 use Rattle.ends.proofs.Tests.{and-true, and-false-l, pick-true, pick-false}
