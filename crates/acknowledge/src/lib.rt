@@ -61,14 +61,16 @@ fn freed(e: End, store: &[u8], border: Border) -> End
     next
 }
 
-// The cursor at the oldest unit, and replay pending.
-pub fn sent_anew(e: End) -> End
-    ensures { λ r. ⌜ r ≡ sent-anew-of e ⌝ }
+// Where all is to be sent again, the cursor at the oldest unit, and replay pending.
+pub fn sent_anew(e: End, again: bool) -> End
+    ensures { λ r. ⌜ r ≡ sent-anew-of again e ⌝ }
 {
     let oldest = e.oldest;
     let mut next = e;
-    next.cursor = oldest;
-    next.pending = true;
+    if again {
+        next.cursor = oldest;
+        next.pending = true;
+    }
     next
 }
 
@@ -83,8 +85,5 @@ pub fn acknowledged(e: End, store: &[u8], flits: FlitCount) -> End
     let first_open = numbers::number_after(e.acknowledged, flits);
     let mut next = freed(e, store, border);
     next.acknowledged = first_open;
-    if cursor.0 < border.flits {
-        return sent_anew(next);
-    }
-    next
+    sent_anew(next, cursor.0 < border.flits)
 }

@@ -7,11 +7,12 @@ use borrow.Author.Tests.{ltb-false}
 use lib.Dec.{ltb, eqb}
 use Rattle.flits.specs.Fields.{replay, idle}
 use Rattle.flits.specs.declared.Fields.{Fields}
+use Rattle.ends.specs.State.{is-run}
 use Rattle.ends.specs.declared.state.End.{End}
 use Rattle.ends.specs.declared.state.Mode.{Mode}
 use Rattle.ends.specs.declared.state.Mode.the-variants.{Run, Wait, Down}
 use Rattle.ends.proofs.Tests.{pick-true, pick-either}
-use Rattle.arrivals.specs.Arrivals.{holds, held-in, damaged, skips, newly-covered, past-sent, behind}
+use Rattle.arrivals.specs.Arrivals.{holds, damaged, skips, newly-covered, past-sent, behind}
 use Rattle.answers.specs.Answers.{half, replay-answer, plain-answer, run-answer, wait-answer, mode-answer}
 use Rattle.answers.specs.declared.Answer.{Answer}
 use Rattle.answers.specs.declared.Answer.the-variants as answer
@@ -81,7 +82,7 @@ found Wait e f b =
 found Down e f b = record {}
 
 -- where the flit is held, nothing else is looked at
-pub held-answer : (m : Mode) (e : End) (f : Fields) (b : Bool) → held-in m e ≡ true → mode-answer m e f b ≡ answer.Held
+pub held-answer : (m : Mode) (e : End) (f : Fields) (b : Bool) → (is-run m && holds e) ≡ true → mode-answer m e f b ≡ answer.Held
 unfolding run-answer
 held-answer Run e f b h = pick-true (holds e) answer.Held _ h
 held-answer Wait e f b h = let z : false ≡ true = h in cc

@@ -82,3 +82,16 @@ data-delivered answer.Idle = 0
 data-delivered answer.Replayed = 0
 data-delivered answer.Ahead = 0
 data-delivered answer.Discarded = 0
+
+abbrev pub cause-of : Answer → ℕ
+cause-of (answer.Down cause) = cause
+cause-of (answer.Refused r) = 0
+cause-of (answer.Delivered n) = 0
+cause-of answer.Held = 0
+cause-of answer.Damaged = 0
+cause-of answer.Skipped = 0
+cause-of answer.Duplicate = 0
+cause-of answer.Idle = 0
+cause-of answer.Replayed = 0
+cause-of answer.Ahead = 0
+cause-of answer.Discarded = 0

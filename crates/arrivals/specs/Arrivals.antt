@@ -1,5 +1,5 @@
 -- What is asked of an arriving flit, step by step of 01, "Receive" 1 to 3. Assumes nothing.
-use mathlib.Core.Bool.{Bool, false, not, _&&_, _||_}
+use mathlib.Core.Bool.{Bool, not, _&&_, _||_}
 use mathlib.Core.List.{List, _++_}
 use Prim.Native.Nat.{ℕ, _+_, _*_}
 use lib.Dec.{ltb, leb, eqb}
@@ -8,39 +8,28 @@ use Rattle.numbers.specs.Numbers.{width, difference, last-received, wanted-by}
 use Rattle.flits.specs.Fields.{idle}
 use Rattle.flits.specs.declared.Fields.{Fields}
 use Rattle.ends.specs.Choice.{pick}
+use Rattle.ends.specs.State.{is-run}
 use Rattle.ends.specs.declared.state.End.{End}
-use Rattle.ends.specs.declared.state.Mode.{Mode}
-use Rattle.ends.specs.declared.state.Mode.the-variants.{Run, Wait, Down}
 
 -- ---- which flits are looked at together
 
--- in mode run, not stalled and data owed: the flit is held
+-- asked in mode run: not stalled and data owed, so that the flit is held
 unfoldable pub holds : End → Bool
 holds e = not (e .stalled) && ltb (e .gathered .0) (e .owed .0)
-
-abbrev pub held-in : Mode → End → Bool
-held-in Run e = holds e
-held-in Wait e = false
-held-in Down e = false
 
 -- when all owed data is held, the next flit closes the unit
 unfoldable pub closes : End → Bool
 closes e = not (e .stalled) && ltb 0 (e .owed .0) && eqb (e .gathered .0) (e .owed .0)
 
 -- otherwise, and in mode wait, a flit is checked alone
-abbrev pub checked-in : Mode → End → List ℕ → List ℕ → List ℕ
-checked-in Run e hold flit = pick (closes e) (take (e .gathered .0 * 64) hold ++ flit) flit
-checked-in Wait e hold flit = flit
-checked-in Down e hold flit = flit
-
 abbrev pub checked : End → List ℕ → List ℕ → List ℕ
-checked e hold flit = checked-in (e .mode) e hold flit
+checked e hold flit = pick (is-run (e .mode) && closes e) (take (e .gathered .0 * 64) hold ++ flit) flit
 
 -- ---- 1. damaged
 
 -- a closing flit's run length over 8, or under 9 while stalled
-unfoldable pub length-wrong : End → Fields → Bool
-length-wrong e f = (closes e && ltb 8 (f .run .0)) || (e .stalled && ltb (f .run .0) 9)
+unfoldable pub run-wrong : End → Fields → Bool
+run-wrong e f = (closes e && ltb 8 (f .run .0)) || (e .stalled && ltb (f .run .0) 9)
 
 -- an idle's stalled run length differs from owed
 unfoldable pub stall-wrong : End → Fields → Bool
@@ -56,7 +45,7 @@ straddles e f =
     leb (f .run .0) 8 && ltb 0 (behind e (e .position .0)) && ltb (behind e (e .position .0)) (e .gathered .0 + 1)
 
 unfoldable pub damaged : End → Fields → Bool → Bool
-damaged e f correct = not correct || length-wrong e f || stall-wrong e f || straddles e f
+damaged e f correct = not correct || run-wrong e f || stall-wrong e f || straddles e f
 
 -- ---- 2. skipped
 unfoldable pub skips : Fields → Bool

@@ -5,15 +5,17 @@ use ends::state::Mode;
 use flits::Fields;
 use numbers::FlitCount;
 ghost use mathlib.Core.Path.{_≡_};
+ghost use mathlib.Core.Bool.{_&&_};
 ghost use Prim.Native.Nat.{_≤_, _*_};
 ghost use lib.ListN.{length};
 ghost use Rattle.crc.specs.Register.{table};
 ghost use Rattle.crc.specs.Unit.{right};
-ghost use Rattle.arrivals.specs.Arrivals.{newly-covered as newly-covered-of, past-sent as past-sent-of, holds as holds-of, held-in, closes as closes-of, checked, length-wrong as length-wrong-of, stall-wrong as stall-wrong-of, straddles as straddles-of, damaged as damaged-of, skips as skips-of};
+ghost use Rattle.ends.specs.State.{is-run};
+ghost use Rattle.arrivals.specs.Arrivals.{newly-covered as newly-covered-of, past-sent as past-sent-of, holds as holds-of, closes as closes-of, checked, run-wrong as run-wrong-of, stall-wrong as stall-wrong-of, straddles as straddles-of, damaged as damaged-of, skips as skips-of};
 
 // In mode run, not stalled and data owed: the flit is held.
 pub fn is_held(e: End) -> bool
-    ensures { λ r. ⌜ r ≡ held-in (e .mode) e ⌝ }
+    ensures { λ r. ⌜ r ≡ (is-run (e .mode) && holds-of e) ⌝ }
 {
     let mode = e.mode;
     match mode {
@@ -58,8 +60,8 @@ pub fn checked_right(t: &[u64; 256], e: End, hold: &[u8], flit: &[u8]) -> bool
 }
 
 // 01, Receive 1, after the check: a closing flit's run length over 8, or under 9 while stalled.
-pub fn length_wrong(e: End, f: Fields) -> bool
-    ensures { λ r. ⌜ r ≡ length-wrong-of e f ⌝ }
+pub fn run_wrong(e: End, f: Fields) -> bool
+    ensures { λ r. ⌜ r ≡ run-wrong-of e f ⌝ }
 {
     (closes(e) & (8 < f.run.0)) | (e.stalled & (f.run.0 < 9))
 }
@@ -85,7 +87,7 @@ pub fn damaged(e: End, f: Fields, correct: bool) -> bool
     requires { ⌜ e .gathered .0 ≤ 8 ⌝ }
     ensures { λ r. ⌜ r ≡ damaged-of e f correct ⌝ }
 {
-    !correct | length_wrong(e, f) | stall_wrong(e, f) | straddles(e, f)
+    !correct | run_wrong(e, f) | stall_wrong(e, f) | straddles(e, f)
 }
 
 // 01, Receive 2.

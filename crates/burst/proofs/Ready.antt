@@ -7,13 +7,13 @@ use Prim.Native.Nat.{ℕ, _+_, _-_, _*_, _<_, _≤_}
 use native.Mathlib.Omega.{arith}
 use lib.ListN.{length}
 use Rattle.ends.specs.Ring.{walked}
-use Rattle.ends.specs.Refusals.{cursor-at, store-is, sound, run-at-cursor}
+use Rattle.ends.specs.Refusals.{cursor-at, store-is, sound, previous-run}
 use Rattle.ends.specs.declared.state.End.{End}
 use Rattle.ends.proofs.Facts.{stored-is, sound-is}
 use Rattle.ends.proofs.Walks.{fair, sound-before, whole}
 
 module _ (e : End) (store : List ℕ) (ok : sound e store ≡ true) where
-  pub run-small : run-at-cursor e store ≤ 8
+  pub run-small : previous-run e store ≤ 8
   run-small =
       let s = sound-is e store ok in
       let n : e .held .0 ≡ cursor-at e + (e .held .0 - cursor-at e) = omega (arith, s .numbers .cursor) in
@@ -21,7 +21,7 @@ module _ (e : End) (store : List ℕ) (ok : sound e store ≡ true) where
       (sound-before e store (cursor-at e) (e .held .0 - cursor-at e)
       (subst (λ (m : ℕ). walked e store m .sound ≡ true) n (s .units .acceptable)))
 
-  pub unit-whole : cursor-at e < e .held .0 → cursor-at e + run-at-cursor e store < e .held .0
+  pub unit-whole : cursor-at e < e .held .0 → cursor-at e + previous-run e store < e .held .0
   unit-whole h =
       let s = sound-is e store ok in
       whole e store (s .counts .kept) (cursor-at e) (s .units .cursor) (e .held .0) h (s .units .border)
@@ -33,7 +33,7 @@ pub record Ready (e : End) (store : List ℕ) (run : ℕ) : Type 0 where
   pub small : run ≤ 8
   pub inside : cursor-at e < e .held .0 → cursor-at e + run < e .capacity .0
 
-pub ready : (e : End) (store : List ℕ) (run : ℕ) → store-is e (length store) ≡ true → sound e store ≡ true → run ≡ run-at-cursor e store
+pub ready : (e : End) (store : List ℕ) (run : ℕ) → store-is e (length store) ≡ true → sound e store ≡ true → run ≡ previous-run e store
     → Ready e store run
 ready e store run h ok r =
     let k = stored-is e (length store) h in

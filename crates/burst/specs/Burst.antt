@@ -7,7 +7,8 @@ use Rattle.numbers.specs.Numbers.{width, after, last-received, acknowledge-numb
 use Rattle.flits.specs.Flits.{idle-flit, replay-flit}
 use Rattle.ends.specs.Choice.{pick}
 use Rattle.ends.specs.Update.{with-cursor, with-sent, with-untold, with-pending}
-use Rattle.ends.specs.Refusals.{cursor-at, sent-at, is-wait}
+use Rattle.ends.specs.State.{is-wait}
+use Rattle.ends.specs.Refusals.{cursor-at, sent-at}
 use Rattle.ends.specs.declared.state.End.{End}
 use Rattle.units.specs.Units.{unit-sent}
 
@@ -35,14 +36,14 @@ replay-sent e run errors information =
     })
 
 -- 2. a unit at the cursor
-abbrev pub unit-waits : End → Bool
-unit-waits e = ltb (cursor-at e) (e .held .0)
+abbrev pub unit-at-cursor : End → Bool
+unit-at-cursor e = ltb (cursor-at e) (e .held .0)
 
 -- if it has data, an idle flit goes before it, with data stalled 0; 3. else one idle flit
 unfoldable pub burst : End → List ℕ → ℕ → ℕ → ℕ → List ℕ
 burst e store run errors information =
     pick (e .pending) (replay-sent e run errors information ++ replay-sent e run errors information)
-    (pick (unit-waits e)
+    (pick (unit-at-cursor e)
     (pick (ltb 0 run)
     (idle-flit (carried (e .untold .0)) false run ++ unit-sent e store run (carried (fallen (e .untold .0))))
     (unit-sent e store run (carried (e .untold .0))))
@@ -50,7 +51,7 @@ burst e store run errors information =
 
 -- the number of flits written
 unfoldable pub burst-flits : End → ℕ → ℕ
-burst-flits e run = pick (e .pending) 2 (pick (unit-waits e) (pick (ltb 0 run) (run + 2) 1) 1)
+burst-flits e run = pick (e .pending) 2 (pick (unit-at-cursor e) (pick (ltb 0 run) (run + 2) 1) 1)
 
 -- the cursor moves past the unit, and sent with it where the cursor passes it
 abbrev pub past-unit : End → ℕ → End
@@ -62,6 +63,6 @@ past-unit e run =
 unfoldable pub moved : End → ℕ → End
 moved e run =
     pick (e .pending) (with-untold 0 (with-pending false e))
-    (pick (unit-waits e)
+    (pick (unit-at-cursor e)
     (with-untold (pick (ltb 0 run) (fallen (fallen (e .untold .0))) (fallen (e .untold .0))) (past-unit e run))
     (with-untold (fallen (e .untold .0)) e))

@@ -15,7 +15,7 @@ ghost use lib.ListN.{length, drop};
 ghost use Rattle.crc.specs.Register.{table};
 ghost use Rattle.flits.specs.Flits.{idle-flit};
 ghost use Rattle.ends.specs.Choice.{pick};
-ghost use Rattle.ends.specs.Refusals.{store-is, sound, run-at-cursor};
+ghost use Rattle.ends.specs.Refusals.{store-is, sound, previous-run};
 ghost use Rattle.burst.specs.Burst.{carried as carried-of, fallen as fallen-of, replay-sent, burst as burst-of, burst-flits, past-unit as past-unit-of, moved as moved-of};
 
 // Writes the burst to the start of the output, and says how many flits it is.
@@ -29,7 +29,7 @@ pub fn write_burst(
     information: u64,
 ) -> FlitCount
     requires { ⌜ (now t ≡ table) × (store-is e (length (now store)) ≡ true) × (sound e (now store) ≡ true) ⌝ }
-    requires { ⌜ (run .0 ≡ run-at-cursor e (now store)) × (640 ≤ length (now output)) ⌝ }
+    requires { ⌜ (run .0 ≡ previous-run e (now store)) × (640 ≤ length (now output)) ⌝ }
     ensures { λ r. ⌜ r .0 ≡ burst-flits e (run .0) ⌝ }
     ensures { λ _. ⌜ now (output .exit) ≡ burst-of e (now (store .entry)) (run .0) errors information ++ drop (length (burst-of e (now (store .entry)) (run .0) errors information)) (now (output .entry)) ⌝ }
 {

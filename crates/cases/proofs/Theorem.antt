@@ -13,15 +13,15 @@ use Rattle.ends.specs.Refusals.{store-is, counts-sound, numbers-sound, units-so
 use Rattle.accept.specs.Accept.{unit-shaped, verdict as accept-verdict, accept}
 use Rattle.burst.specs.Burst.{replay-sent, burst, moved}
 use Rattle.send.specs.Send.{verdict as send-verdict, send, send-output}
-use Rattle.arrivals.specs.Arrivals.{holds, closes, length-wrong, stall-wrong, straddles, damaged, skips, newly-covered, past-sent}
+use Rattle.arrivals.specs.Arrivals.{holds, closes, run-wrong, stall-wrong, straddles, damaged, skips, newly-covered, past-sent}
 use Rattle.answers.specs.Answers.{replay-answer, run-answer, wait-answer}
 use Rattle.acknowledge.specs.Acknowledge.{last-border, freed, acknowledged}
-use Rattle.effects.specs.Effects.{waiting, discarded, replaced, end-after}
+use Rattle.effects.specs.Effects.{waiting, discarded, replay-taken, end-after}
 use Rattle.receive.specs.Receive.{verdict as receive-verdict, answer-to, receive}
 use Rattle.cases.specs.Cases.{BenchCases}
 
 pub bench-cases : BenchCases
-unfolding after difference acknowledge-number wanted-by polynomial bits right with-check check-of sealed number bytes fields-of acceptable control-told idle-flit replay-flit store-fits fresh start place begun walk store-is counts-sound numbers-sound units-sound sound unit-shaped accept-verdict accept send-verdict replay-sent burst moved send send-output holds closes length-wrong stall-wrong straddles damaged skips newly-covered past-sent replay-answer run-answer wait-answer last-border freed acknowledged receive-verdict waiting discarded replaced end-after answer-to receive
+unfolding after difference acknowledge-number wanted-by polynomial bits right with-check check-of sealed number bytes fields-of acceptable control-told idle-flit replay-flit store-fits fresh start place begun walk store-is counts-sound numbers-sound units-sound sound unit-shaped accept-verdict accept send-verdict replay-sent burst moved send send-output holds closes run-wrong stall-wrong straddles damaged skips newly-covered past-sent replay-answer run-answer wait-answer last-border freed acknowledged receive-verdict waiting discarded replay-taken end-after answer-to receive
 bench-cases =
     record {
       case-1 = (refl, refl);

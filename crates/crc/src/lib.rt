@@ -3,17 +3,19 @@
 // by stores in each function that names it, so one function names the table, and the others are handed it: who checks many units lays it
 // down once and calls the functions that end in `_with`.
 ghost use mathlib.Core.Path.{_≡_};
+ghost use mathlib.Core.Bool.{true};
 ghost use Rattle.crc.specs.Poly.{remainder as remainder-of};
-ghost use Rattle.crc.specs.Unit.{bits, polynomial, right as right-of, flit-right as flit-right-of};
+ghost use Rattle.crc.specs.Unit.{bits, polynomial, Right, right as right-of, flit-right as flit-right-of};
 ghost use Rattle.crc.specs.Register.{number, table, take-byte, continued as continuedOf};
 ghost use Rattle.crc.specs.Seal.{with-check, sealed};
 ghost use mathlib.Core.List.{_++_};
 ghost use Prim.Native.Nat.{_≤_};
 ghost use lib.ListN.{length};
 
-// Whether a unit is right.
+// Whether a unit is right: as the test says, and so exactly when the polynomial divides it.
 pub fn right(unit: &[u8]) -> bool
     ensures { λ r. ⌜ r ≡ right-of (now (unit .entry)) ⌝ }
+    ensures { λ r. ⌜ (r ≡ true → Right (now (unit .entry))) × (Right (now (unit .entry)) → r ≡ true) ⌝ }
 {
     let t = laid();
     right_with(&t, unit)

@@ -20,7 +20,7 @@ use Rattle.answers.specs.Answers.{mode-answer}
 use Rattle.answers.specs.declared.Answer.{Answer}
 use Rattle.answers.proofs.Found.{Fits, found}
 use Rattle.acknowledge.specs.Acknowledge.{Covered, freed-by, freed, sent-anew, acknowledged}
-use Rattle.effects.specs.Effects.{informed, replaced}
+use Rattle.effects.specs.Effects.{informed, replay-taken}
 
 -- the numbers of a state fit their type
 pub record Fitting (e : End) : Type 0 where
@@ -55,11 +55,11 @@ discards-acknowledged : (e : End) (store : List ℕ) (n : ℕ) → acknowledged 
 unfolding acknowledged freed
 discards-acknowledged e store n =
     let z = freed (with-acknowledged (after width (e .acknowledged .0) n) e) store (freed-by e store n) in
-    pick-either (λ (z : End). z .discards ≡ e .discards) (ltb (cursor-at e) (freed-by e store n)) (sent-anew z) z (λ t. refl) (λ t. refl)
+    pick-either (λ (z : End). z .discards ≡ e .discards) (ltb (cursor-at e) (freed-by e store n)) (sent-anew true z) z (λ t. refl) (λ t. refl)
 
-pub discards-replaced : (e : End) (store : List ℕ) (f : Fields) → replaced e store f .discards ≡ e .discards
-unfolding replaced
-discards-replaced e store f =
+pub discards-replay-taken : (e : End) (store : List ℕ) (f : Fields) → replay-taken e store f .discards ≡ e .discards
+unfolding replay-taken
+discards-replay-taken e store f =
     let h = discards-acknowledged e store (newly-covered e (f .last .0)) in
     let z = informed (f .information) (acknowledged e store (newly-covered e (f .last .0))) in
-    pick-either (λ (z : End). z .discards ≡ e .discards) (f .nack) (sent-anew z) z (λ t. h) (λ t. h)
+    pick-either (λ (z : End). z .discards ≡ e .discards) (f .nack) (sent-anew true z) z (λ t. h) (λ t. h)

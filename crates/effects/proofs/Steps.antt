@@ -7,8 +7,8 @@ use Rattle.flits.specs.declared.Fields.{Fields}
 use Rattle.ends.specs.Update.{with-position, with-gathered, with-owed, with-stalled, with-wanted, with-untold}
 use Rattle.ends.specs.declared.state.End.{End}
 use Rattle.arrivals.specs.Arrivals.{newly-covered}
-use Rattle.acknowledge.specs.Acknowledge.{acknowledged}
-use Rattle.effects.specs.Effects.{closed, delivered, informed, nacked, replaced}
+use Rattle.acknowledge.specs.Acknowledge.{sent-anew, acknowledged}
+use Rattle.effects.specs.Effects.{closed, delivered, informed, replay-taken}
 
 -- a delivery, where r is the state after its control flit and w the number after the unit
 pub delivered-is : (e : End) (store : List ℕ) (f : Fields) (w : ℕ) (r : End) → r ≡ closed e store f
@@ -18,9 +18,9 @@ unfolding delivered
 delivered-is e store f w r p q = ap₂ (λ (v : ℕ) (z : End). with-wanted v (with-untold (e .untold .0 + (e .gathered .0 + 1)) z)) q p
 
 -- a replay flit, where r is the state after acknowledgement, link information and NACK
-pub replaced-is : (e : End) (store : List ℕ) (f : Fields) (r : End)
-    → r ≡ nacked (f .nack) (informed (f .information) (acknowledged e store (newly-covered e (f .last .0))))
-    → with-position (f .start .0) (with-gathered 0 (with-owed (f .previous .0) (with-stalled (f .stalled) r))) ≡ replaced e store f
-unfolding replaced
-replaced-is e store f r p =
+pub replay-taken-is : (e : End) (store : List ℕ) (f : Fields) (r : End)
+    → r ≡ sent-anew (f .nack) (informed (f .information) (acknowledged e store (newly-covered e (f .last .0))))
+    → with-position (f .start .0) (with-gathered 0 (with-owed (f .previous .0) (with-stalled (f .stalled) r))) ≡ replay-taken e store f
+unfolding replay-taken
+replay-taken-is e store f r p =
     ap (λ (z : End). with-position (f .start .0) (with-gathered 0 (with-owed (f .previous .0) (with-stalled (f .stalled) z)))) p

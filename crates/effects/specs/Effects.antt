@@ -1,5 +1,5 @@
 -- The state after each answer, step by step of 01, "Receive" 3 to 6. Assumes nothing.
-use mathlib.Core.Bool.{Bool, true}
+use mathlib.Core.Bool.{true}
 use mathlib.Core.List.{List, _∷_}
 use Prim.Native.Nat.{ℕ, _+_}
 use lib.Dec.{eqb}
@@ -46,15 +46,12 @@ delivered e store f =
 abbrev pub informed : ℕ → End → End
 informed information e = with-information (information ∷ take 7 (e .information)) e
 
-abbrev pub nacked : Bool → End → End
-nacked nack e = pick nack (sent-anew e) e
-
-unfoldable pub replaced : End → List ℕ → Fields → End
-replaced e store f =
+unfoldable pub replay-taken : End → List ℕ → Fields → End
+replay-taken e store f =
     with-position (f .start .0)
     (with-gathered 0
     (with-owed (f .previous .0)
-    (with-stalled (f .stalled) (nacked (f .nack) (informed (f .information) (acknowledged e store (newly-covered e (f .last .0))))))))
+    (with-stalled (f .stalled) (sent-anew (f .nack) (informed (f .information) (acknowledged e store (newly-covered e (f .last .0))))))))
 
 abbrev pub ahead-in : Mode → End → End
 ahead-in Run e = waiting e
@@ -70,6 +67,6 @@ end-after (answer.Down cause) e store f = down cause e
 end-after (answer.Delivered n) e store f = delivered e store f
 end-after answer.Duplicate e store f = closed e store f
 end-after answer.Idle e store f = idled e store f
-end-after answer.Replayed e store f = with-mode Run (with-discards 0 (replaced e store f))
-end-after answer.Ahead e store f = ahead-in (e .mode) (replaced e store f)
+end-after answer.Replayed e store f = with-mode Run (with-discards 0 (replay-taken e store f))
+end-after answer.Ahead e store f = ahead-in (e .mode) (replay-taken e store f)
 end-after answer.Discarded e store f = discarded e

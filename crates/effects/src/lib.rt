@@ -13,7 +13,7 @@ ghost use Rattle.ends.specs.Update.{with-mode as with-mode-of, with-gathered};
 ghost use Rattle.ends.specs.Refusals.{store-is, sound};
 ghost use Rattle.arrivals.specs.Arrivals.{newly-covered};
 ghost use Rattle.answers.specs.Answers.{mode-answer};
-ghost use Rattle.effects.specs.Effects.{waiting as waiting-of, discarded as discarded-of, down as down-of, idled as idled-of, closed as closed-of, delivered as delivered-of, informed as informed-of, nacked as nacked-of, replaced as replaced-of, ahead-in, end-after as end-after-of};
+ghost use Rattle.effects.specs.Effects.{waiting as waiting-of, discarded as discarded-of, down as down-of, idled as idled-of, closed as closed-of, delivered as delivered-of, informed as informed-of, replay-taken as replay-taken-of, ahead-in, end-after as end-after-of};
 ghost use Rattle.acknowledge.specs.Acknowledge.{Covered};
 
 // The end in another mode.
@@ -141,13 +141,13 @@ fn newest_first(old: [u64; 8], newest: u64) -> [u64; 8]
 }
 
 // A replay flit: acknowledgement, link information, NACK, position, owed and stalled.
-fn replaced(e: End, store: &[u8], f: Fields) -> End
+fn replay_taken(e: End, store: &[u8], f: Fields) -> End
     requires { ⌜ Covered e (now store) (newly-covered e (f .last .0)) ⌝ }
-    ensures { λ r. ⌜ r ≡ replaced-of e (now (store .entry)) f ⌝ }
+    ensures { λ r. ⌜ r ≡ replay-taken-of e (now (store .entry)) f ⌝ }
 {
     let covered = arrivals::newly_covered(e, f);
     let told = acknowledge::acknowledged(e, store, covered);
-    let mut next = nacked(informed(told, f.information), f.nack);
+    let mut next = acknowledge::sent_anew(informed(told, f.information), f.nack);
     let none = FlitCount(0);
     let owed = f.previous;
     let position = f.start;
@@ -156,13 +156,6 @@ fn replaced(e: End, store: &[u8], f: Fields) -> End
     next.gathered = none;
     next.position = position;
     next
-}
-
-// NACK sets the cursor to the oldest unit and replay pending.
-fn nacked(e: End, nack: bool) -> End
-    ensures { λ r. ⌜ r ≡ nacked-of nack e ⌝ }
-{
-    if nack { acknowledge::sent_anew(e) } else { e }
 }
 
 // Ahead: as damage in mode run, as one more discarded in mode wait.
@@ -189,13 +182,13 @@ pub fn end_after(answer: Answer, e: End, store: &[u8], f: Fields) -> End
         Answer::Duplicate => closed(e, store, f),
         Answer::Idle => idled(e, store, f),
         Answer::Replayed => {
-            let mut next = replaced(e, store, f);
+            let mut next = replay_taken(e, store, f);
             next.discards = 0;
             with_mode(next, Mode::Run)
         }
         Answer::Ahead => {
             let mode = e.mode;
-            ahead(mode, replaced(e, store, f))
+            ahead(mode, replay_taken(e, store, f))
         }
         Answer::Skipped => e,
         Answer::Damaged => waiting(e),

@@ -9,8 +9,8 @@ use native.Mathlib.Nat.{add-suc, add-zero}
 use native.Mathlib.Numerals.{add-one}
 use borrow.Author.Tests.{ltb-true, ltb-false, lt-ltb, le-ltb, leb-true, ne-eqb}
 use lib.Dec.{ltb, leb, eqb}
-use Rattle.flits.specs.Bytes.{field, read}
-use Rattle.flits.specs.Fields.{content, run-length, acceptable}
+use Rattle.flits.specs.Bytes.{read}
+use Rattle.flits.specs.Fields.{content, link-bits, run-length, acceptable}
 use Rattle.ends.specs.Choice.{pick}
 use Rattle.ends.specs.Ring.{flit-at, place, begun, passed, walk, walked, stored}
 use Rattle.ends.specs.declared.state.End.{End}
@@ -45,7 +45,7 @@ unfolding passed acceptable
 fair-passed flit w f =
     pick-either Fair (ltb 0 (w .left)) _ _
     (λ t. record { left = omega (arith, f .left, ltb-true 0 (w .left) t); at-border = λ b. absurd-border b; small = f .small })
-    (λ t. record { left = omega arith; at-border = λ b. refl; small = λ s. leb-true (read run-length (content flit)) 8 (and-l (leb (read run-length (content flit)) 8) (eqb (read (field 63 18) (content flit)) 0) (and-r (w .sound) (acceptable flit) s)) })
+    (λ t. record { left = omega arith; at-border = λ b. refl; small = λ s. leb-true (read run-length (content flit)) 8 (and-l (leb (read run-length (content flit)) 8) (eqb (read link-bits (content flit)) 0) (and-r (w .sound) (acceptable flit) s)) })
   where
     absurd-border : false ≡ true → w .left - 1 ≡ w .run
     absurd-border b = let z : _≡_ {A = ℕ} 0 1 = cc in omega arith

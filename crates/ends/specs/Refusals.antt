@@ -58,8 +58,8 @@ unfoldable pub sound : End → List ℕ → Bool
 sound e store = counts-sound e && numbers-sound e && units-sound e store
 
 -- the run length of the control flit before the cursor, and of the last control flit accepted (0 at first)
-abbrev pub run-at-cursor : End → List ℕ → ℕ
-run-at-cursor e store = walked e store (cursor-at e) .run
+abbrev pub previous-run : End → List ℕ → ℕ
+previous-run e store = walked e store (cursor-at e) .run
 
 abbrev pub last-run : End → List ℕ → ℕ
 last-run e store = walked e store (e .held .0) .run
@@ -69,8 +69,3 @@ abbrev pub is-down : Mode → Bool
 is-down Run = false
 is-down Wait = false
 is-down Down = true
-
-abbrev pub is-wait : Mode → Bool
-is-wait Run = false
-is-wait Wait = true
-is-wait Down = false

@@ -1,12 +1,13 @@
--- The fresh end, and the numbers of the refusals (01, "What an end keeps"; "Refusals by number"). Assumes nothing.
-use mathlib.Core.Bool.{Bool, false, _&&_}
+-- The fresh end, tests of its mode, and the numbers of the refusals (01, "What an end keeps"; "Refusals by number"). Assumes nothing.
+use mathlib.Core.Bool.{Bool, true, false, _&&_}
 use Prim.Native.Nat.{ℕ, _/_, _%_}
 use lib.Dec.{leb, eqb}
 use lib.ListN.{replicate}
 use Rattle.ends.specs.Choice.{pick}
 use Rattle.ends.specs.declared.state.End.{End}
 use Rattle.ends.specs.declared.state.Started.{Started}
-use Rattle.ends.specs.declared.state.Mode.the-variants.{Run}
+use Rattle.ends.specs.declared.state.Mode.{Mode}
+use Rattle.ends.specs.declared.state.Mode.the-variants.{Run, Wait, Down}
 use Rattle.ends.specs.declared.state.Refusal.{Refusal}
 use Rattle.ends.specs.declared.state.Refusal.the-variants as refusal
 use Rattle.ends.specs.declared.state.Verdict.{Verdict}
@@ -63,3 +64,14 @@ start bytes =
     pick (store-fits bytes)
     (record { verdict = Admitted; end = fresh (bytes / 64) })
     (record { verdict = Refused refusal.Store; end = fresh 0 })
+
+-- tests of the mode
+abbrev pub is-run : Mode → Bool
+is-run Run = true
+is-run Wait = false
+is-run Down = false
+
+abbrev pub is-wait : Mode → Bool
+is-wait Run = false
+is-wait Wait = true
+is-wait Down = false

@@ -9,7 +9,8 @@ ghost use mathlib.Core.Bool.{true};
 ghost use lib.Dec.{ltb};
 ghost use lib.ListN.{length};
 ghost use Rattle.ends.specs.Choice.{pick};
-ghost use Rattle.ends.specs.Refusals.{store-is, counts-sound as counts-sound-of, numbers-sound as numbers-sound-of, sound as sound-of, run-at-cursor, last-run, is-down as is-down-of, is-wait as is-wait-of};
+ghost use Rattle.ends.specs.State.{is-wait as is-wait-of};
+ghost use Rattle.ends.specs.Refusals.{store-is, counts-sound as counts-sound-of, numbers-sound as numbers-sound-of, sound as sound-of, previous-run, last-run, is-down as is-down-of};
 
 // 1 STORE: the store is the one that the state was started with.
 pub fn is_its_store(e: End, bytes: usize) -> bool
@@ -66,7 +67,7 @@ pub struct Judged {
 pub fn judge(e: End, store: &[u8]) -> Judged
     requires { ⌜ store-is e (length (now store)) ≡ true ⌝ }
     ensures { λ r. ⌜ r .sound ≡ sound-of e (now (store .entry)) ⌝ }
-    ensures { λ r. ⌜ r .previous .0 ≡ pick (sound-of e (now (store .entry))) (run-at-cursor e (now (store .entry))) 0 ⌝ }
+    ensures { λ r. ⌜ r .previous .0 ≡ pick (sound-of e (now (store .entry))) (previous-run e (now (store .entry))) 0 ⌝ }
     ensures { λ r. ⌜ r .last .0 ≡ pick (sound-of e (now (store .entry))) (last-run e (now (store .entry))) 0 ⌝ }
 {
     if counts_sound(e) & numbers_sound(e) {

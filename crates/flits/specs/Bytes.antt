@@ -33,6 +33,10 @@ read p x = x / 2 ^ p .low % 2 ^ (suc (p .high) - p .low)
 abbrev pub marked : Field → ℕ → Bool
 marked p x = eqb (read p x) 1
 
+-- what stands in the bits below a field
+abbrev pub below : Field → ℕ → ℕ
+below p x = x % 2 ^ p .low
+
 -- a value where its field stands; a flit's content is the sum of its fields
 abbrev pub write : Field → ℕ → ℕ
 write p v = v * 2 ^ p .low

@@ -22,7 +22,10 @@ data-stalled = bit 19
 abbrev pub short-flit-next : Field
 short-flit-next = bit 18
 
--- Control: template 17:12 and bad data flit 11:4 are carried as given
+-- Control: what the link writes. Below it stands what is carried as given: template 17:12, bad data flit 11:4 and the run length.
+abbrev pub link-bits : Field
+link-bits = field 63 18
+
 abbrev pub run-length : Field
 run-length = field 3 0
 
@@ -66,7 +69,7 @@ replay = 10
 abbrev pub idle : ℕ
 idle = 15
 
--- all that is read of an arriving flit; the names in « » are those of src/lib.rt
+-- all that is read of an arriving flit
 unfoldable pub fields-of : List ℕ → Fields
 fields-of flit =
     record {
@@ -84,4 +87,4 @@ fields-of flit =
 
 -- a control flit as accept takes it (01, Refusals, 7): run length at most 8, no bit of 63:18 set
 unfoldable pub acceptable : List ℕ → Bool
-acceptable flit = leb (read run-length (content flit)) 8 && eqb (read (field 63 18) (content flit)) 0
+acceptable flit = leb (read run-length (content flit)) 8 && eqb (read link-bits (content flit)) 0

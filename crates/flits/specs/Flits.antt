@@ -2,12 +2,12 @@
 -- sent 0. Assumes nothing.
 use mathlib.Core.Bool.{Bool}
 use mathlib.Core.List.{List, _++_}
-use Prim.Native.Nat.{ℕ, _+_, _%_, _^_}
+use Prim.Native.Nat.{ℕ, _+_}
 use lib.ListN.{take, replicate}
 use Rattle.crc.specs.Seal.{sealed}
-use Rattle.flits.specs.Bytes.{bytes, write, mark}
+use Rattle.flits.specs.Bytes.{bytes, below, write, mark}
 use Rattle.flits.specs.declared.write.Replay.{Replay}
-use Rattle.flits.specs.Fields.{content, ack-count, data-stalled, run-length, stalled-run-length, nack, replay-data-stalled, link-errors, previous-run-length, replay-run-length, starting-number, acknowledge-number, link-information, replay, idle}
+use Rattle.flits.specs.Fields.{content, ack-count, data-stalled, link-bits, run-length, stalled-run-length, nack, replay-data-stalled, link-errors, previous-run-length, replay-run-length, starting-number, acknowledge-number, link-information, replay, idle}
 
 -- the flit with another DL content
 abbrev pub with-content : List ℕ → ℕ → List ℕ
@@ -15,11 +15,11 @@ with-content flit c = take 56 flit ++ bytes 8 c
 
 -- a control flit with bits 63:18 zero, as accept takes it and as it is handed on
 unfoldable pub bare-control : List ℕ → List ℕ
-bare-control flit = with-content flit (content flit % 2 ^ 18)
+bare-control flit = with-content flit (below link-bits (content flit))
 
 -- a control flit as it is sent, but for its check, which covers its data too
 unfoldable pub control-told : List ℕ → ℕ → Bool → List ℕ
-control-told flit acks stalled = with-content flit (content flit % 2 ^ 18 + mark data-stalled stalled + write ack-count acks)
+control-told flit acks stalled = with-content flit (below link-bits (content flit) + mark data-stalled stalled + write ack-count acks)
 
 unfoldable pub idle-flit : ℕ → Bool → ℕ → List ℕ
 idle-flit acks stalled owed =

@@ -39,7 +39,7 @@ unfolding difference
 none-between o h = omega arith
 
 -- the cursor at the oldest unit
-pub anew-sends : (e : End) (store : List ℕ) → e .oldest .0 < 2 ^ 16 → Sends e store → Sends (sent-anew e) store
+pub anew-sends : (e : End) (store : List ℕ) → e .oldest .0 < 2 ^ 16 → Sends e store → Sends (sent-anew true e) store
 unfolding walk begun
 anew-sends e store h s =
     let z = none-between (e .oldest .0) h in
@@ -170,7 +170,7 @@ module _ (e : End) (store : List ℕ) (n : ℕ) (fit : Fitting e) (its : store-i
 
   -- the cursor moves to the oldest unit left where freed units pass it
   passed-by : ltb (cursor-at e) gone ≡ true
-      → Sends (sent-anew (freed (with-acknowledged first-open e) store gone)) store
+      → Sends (sent-anew true (freed (with-acknowledged first-open e) store gone)) store
   unfolding freed
   passed-by t =
       freed-sends oldest-left 0 (none-between oldest-left (after-lt width (e .oldest .0) gone)) (omega (arith, gone-reach, reach-sent))
@@ -206,7 +206,7 @@ acknowledged-apart e store n =
     let x = freed (with-acknowledged (after width (e .acknowledged .0) n) e) store (freed-by e store n) in
     let o = after-lt width (e .oldest .0) (freed-by e store n) in
     let a = after-lt width (e .acknowledged .0) n in
-    pick-either (Apart e) (ltb (cursor-at e) (freed-by e store n)) (sent-anew x) x
+    pick-either (Apart e) (ltb (cursor-at e) (freed-by e store n)) (sent-anew true x) x
     (λ t.
     record { capacity = refl; owed = refl; gathered = refl; untold = refl; discards = refl; sent = refl; oldest = o; acknowledged = a })
     (λ t.

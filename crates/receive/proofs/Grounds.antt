@@ -12,7 +12,7 @@ use Rattle.ends.specs.declared.state.End.{End}
 use Rattle.ends.specs.declared.state.Mode.{Mode}
 use Rattle.ends.specs.declared.state.Mode.the-variants.{Run, Wait, Down}
 use Rattle.ends.proofs.Tests.{and-l, and-r, pick-either}
-use Rattle.arrivals.specs.Arrivals.{holds, closes, length-wrong, stall-wrong, straddles, damaged, skips, newly-covered, past-sent, behind}
+use Rattle.arrivals.specs.Arrivals.{holds, closes, run-wrong, stall-wrong, straddles, damaged, skips, newly-covered, past-sent, behind}
 use Rattle.answers.specs.Answers.{half, replay-answer, plain-answer, run-answer, wait-answer, mode-answer}
 use Rattle.answers.specs.declared.Answer.{Answer}
 use Rattle.answers.specs.declared.Answer.the-variants as answer
@@ -93,7 +93,7 @@ none-held false g o r h l k m n = go (ltb 0 o) refl
 
 idle-alone : (e : End) (f : Fields) (b : Bool) → Receives e → holds e ≡ false → damaged e f b ≡ false → eqb (f .run .0) idle ≡ true
     → e .gathered .0 ≡ 0
-unfolding holds closes damaged length-wrong
+unfolding holds closes damaged run-wrong
 idle-alone e f b r h d i =
     let u = closes e && ltb 8 (f .run .0) in
     let v = e .stalled && ltb (f .run .0) 9 in

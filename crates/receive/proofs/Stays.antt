@@ -25,7 +25,7 @@ use Rattle.answers.specs.declared.Answer.{Answer}
 use Rattle.answers.specs.declared.Answer.the-variants as answer
 use Rattle.answers.proofs.Found.{Fits, found}
 use Rattle.acknowledge.specs.Acknowledge.{sent-anew, acknowledged}
-use Rattle.effects.specs.Effects.{waiting, discarded, closed, delivered, informed, idled, replaced, ahead-in, end-after}
+use Rattle.effects.specs.Effects.{waiting, discarded, closed, delivered, informed, idled, replay-taken, ahead-in, end-after}
 use Rattle.receive.specs.Receive.{verdict, answer-by, answer-to, receive}
 use Rattle.effects.proofs.Covering.{Fitting}
 use Rattle.receive.proofs.Freed.{acknowledged-sends, acknowledged-apart, anew-sends}
@@ -188,9 +188,9 @@ module _ (e : End) (store : List ℕ) (f : Fields) (fit : Fitting e) (its : stor
         sent = k .sent;
       }
 
-  replaced-kept : past-sent e (newly-covered e (f .last .0)) ≡ false → f .previous .0 ≤ 8 → Kept e (replaced e store f) store
-  unfolding replaced
-  replaced-kept w h =
+  replay-taken-kept : past-sent e (newly-covered e (f .last .0)) ≡ false → f .previous .0 ≤ 8 → Kept e (replay-taken e store f) store
+  unfolding replay-taken
+  replay-taken-kept w h =
       let n = newly-covered e (f .last .0) in
       let x = informed (f .information) (acknowledged e store n) in
       let r = receiving e store ok in
@@ -204,7 +204,7 @@ module _ (e : End) (store : List ℕ) (f : Fields) (fit : Fitting e) (its : stor
         untold-in = omega (arith, r .untold-in, a .untold);
         discards-in = omega (arith, r .discards-in, a .discards);
       } in
-      pick-either (λ (y : End). Kept e (finished y) store) (f .nack) (sent-anew x) x
+      pick-either (λ (y : End). Kept e (finished y) store) (f .nack) (sent-anew true x) x
       (λ t.
       record {
         sends = anew-sends x store (a .oldest) s;
@@ -255,7 +255,7 @@ module _ (e : End) (store : List ℕ) (f : Fields) (fit : Fitting e) (its : stor
   after-kept answer.Duplicate p g = closed-kept (p .within) (g .run)
   after-kept answer.Idle p g = idled-kept (p .within) (g .none)
   after-kept answer.Replayed p g =
-      let k = counted e store (replaced e store f) 0 (omega arith) (replaced-kept (p .within) (g .previous)) in
+      let k = counted e store (replay-taken e store f) 0 (omega arith) (replay-taken-kept (p .within) (g .previous)) in
       record {
         sends = k .sends;
         receives = k .receives;
@@ -264,7 +264,7 @@ module _ (e : End) (store : List ℕ) (f : Fields) (fit : Fitting e) (its : stor
         acknowledged = k .acknowledged;
         sent = k .sent;
       }
-  after-kept answer.Ahead p g = ahead-kept e store (e .mode) (replaced e store f) (replaced-kept (p .within) (g .previous))
+  after-kept answer.Ahead p g = ahead-kept e store (e .mode) (replay-taken e store f) (replay-taken-kept (p .within) (g .previous))
   after-kept answer.Skipped p g = same
   after-kept answer.Damaged p g = waiting-kept e store e same
   after-kept answer.Discarded p g = discarded-kept e store e same

@@ -9,7 +9,7 @@ use borrow.Author.Tests.{ltb-true, ltb-false}
 use lib.Dec.{ltb}
 use lib.ListN.{length, length-append}
 use Rattle.flits.specs.Flits.{idle-flit}
-use Rattle.ends.specs.Refusals.{cursor-at, store-is, sound, run-at-cursor}
+use Rattle.ends.specs.Refusals.{cursor-at, store-is, sound, previous-run}
 use Rattle.ends.specs.declared.state.End.{End}
 use Rattle.units.specs.Units.{unit-sent}
 use Rattle.burst.specs.Burst.{carried, fallen, replay-sent, burst, burst-flits}
@@ -57,12 +57,12 @@ module _ (e : End) (store : List ℕ) (run errors information : ℕ) (y : Ready 
       (length-unit e store run (carried (e .untold .0)) (y .first) (y .size) (y .inside w) ∙ z) (flits-control e run p w d) (omega arith)
 
 pub burst-length : (e : End) (store : List ℕ) (errors information : ℕ) → store-is e (length store) ≡ true → sound e store ≡ true
-    → Sized (burst e store (run-at-cursor e store) errors information) (burst-flits e (run-at-cursor e store))
+    → Sized (burst e store (previous-run e store) errors information) (burst-flits e (previous-run e store))
 burst-length e store errors information h ok =
-    let run = run-at-cursor e store in
+    let run = previous-run e store in
     by-case e store run errors information (ready e store run h ok refl) (e .pending) (ltb (cursor-at e) (e .held .0)) (ltb 0 run) refl refl refl
 
 -- the shortest output that send takes holds it
 pub burst-fits : (e : End) (store : List ℕ) (errors information : ℕ) → store-is e (length store) ≡ true → sound e store ≡ true
-    → length (burst e store (run-at-cursor e store) errors information) ≤ 640
+    → length (burst e store (previous-run e store) errors information) ≤ 640
 burst-fits e store errors information h ok = let s = burst-length e store errors information h ok in omega arith

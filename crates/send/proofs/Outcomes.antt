@@ -4,7 +4,7 @@ use mathlib.Core.List.{List, _++_}
 use mathlib.Core.Path.{_≡_, ap}
 use Prim.Native.Nat.{ℕ}
 use lib.ListN.{length, drop}
-use Rattle.ends.specs.Refusals.{run-at-cursor}
+use Rattle.ends.specs.Refusals.{previous-run}
 use Rattle.ends.specs.declared.state.End.{End}
 use Rattle.ends.specs.declared.state.Refusal.{Refusal}
 use Rattle.ends.specs.declared.state.Verdict.{Verdict}
@@ -17,13 +17,13 @@ use Rattle.send.specs.declared.Sent.{Sent}
 module _ (e : End) (store : List ℕ) where
   pub send-refused : (n : ℕ) (r : Refusal) → verdict e store n ≡ Refused r → send e store n ≡ record { answer = answer.Refused r; end = e }
   unfolding send
-  send-refused n r h = ap (λ (v : Verdict). sent-by v e (run-at-cursor e store)) h
+  send-refused n r h = ap (λ (v : Verdict). sent-by v e (previous-run e store)) h
 
   pub output-refused : (output : List ℕ) (errors information : ℕ) (r : Refusal) → verdict e store (length output) ≡ Refused r
       → send-output e store output errors information ≡ output
   unfolding send-output
   output-refused output errors information r h =
-      ap (λ (v : Verdict). output-by v (burst e store (run-at-cursor e store) errors information) output) h
+      ap (λ (v : Verdict). output-by v (burst e store (previous-run e store) errors information) output) h
 
   pub refused-changes-nothing : (output : List ℕ) (errors information : ℕ) (r : Refusal) → verdict e store (length output) ≡ Refused r
       → (send e store (length output) .end ≡ e) × (send-output e store output errors information ≡ output)
@@ -32,14 +32,14 @@ module _ (e : End) (store : List ℕ) where
 
   pub send-admitted : (n : ℕ) → verdict e store n ≡ Admitted
       → send e store n
-      ≡ record { answer = answer.Flits (record { 0 = burst-flits e (run-at-cursor e store) }); end = moved e (run-at-cursor e store) }
+      ≡ record { answer = answer.Flits (record { 0 = burst-flits e (previous-run e store) }); end = moved e (previous-run e store) }
   unfolding send
-  send-admitted n h = ap (λ (v : Verdict). sent-by v e (run-at-cursor e store)) h
+  send-admitted n h = ap (λ (v : Verdict). sent-by v e (previous-run e store)) h
 
   pub output-admitted : (output : List ℕ) (errors information : ℕ) → verdict e store (length output) ≡ Admitted
       → send-output e store output errors information
-      ≡ burst e store (run-at-cursor e store) errors information
-      ++ drop (length (burst e store (run-at-cursor e store) errors information)) output
+      ≡ burst e store (previous-run e store) errors information
+      ++ drop (length (burst e store (previous-run e store) errors information)) output
   unfolding send-output
   output-admitted output errors information h =
-      ap (λ (v : Verdict). output-by v (burst e store (run-at-cursor e store) errors information) output) h
+      ap (λ (v : Verdict). output-by v (burst e store (previous-run e store) errors information) output) h

@@ -13,7 +13,7 @@ use Rattle.numbers.proofs.Laws.{further}
 use Rattle.ends.specs.Choice.{pick}
 use Rattle.ends.specs.Update.{with-untold, with-pending}
 use Rattle.ends.specs.Ring.{walked}
-use Rattle.ends.specs.Refusals.{cursor-at, sent-at, store-is, counts-sound, sound, run-at-cursor}
+use Rattle.ends.specs.Refusals.{cursor-at, sent-at, store-is, counts-sound, sound, previous-run}
 use Rattle.ends.specs.declared.state.End.{End}
 use Rattle.ends.specs.declared.state.Verdict.{Verdict}
 use Rattle.ends.specs.declared.state.Verdict.the-variants.{Refused, Admitted}
@@ -37,12 +37,12 @@ moved-either P e run f g h =
     pick-either P (e .pending) _ _ (λ t. f)
     (λ t. pick-either P (ltb (cursor-at e) (e .held .0)) _ _ (λ v. h (ltb-true (cursor-at e) (e .held .0) v)) (λ v. g))
 
-pub send-either : (P : End → Type 0) (e : End) (store : List ℕ) (n : ℕ) → P e → (verdict e store n ≡ Admitted → P (moved e (run-at-cursor e store)))
+pub send-either : (P : End → Type 0) (e : End) (store : List ℕ) (n : ℕ) → P e → (verdict e store n ≡ Admitted → P (moved e (previous-run e store)))
     → P (send e store n .end)
 unfolding send
 send-either P e store n f g = go (verdict e store n) refl
   where
-    go : (v : Verdict) → verdict e store n ≡ v → P (sent-by v e (run-at-cursor e store) .end)
+    go : (v : Verdict) → verdict e store n ≡ v → P (sent-by v e (previous-run e store) .end)
     go (Refused r) h = f
     go Admitted h = g h
 
@@ -56,7 +56,7 @@ record Further (e : End) (to x : ℕ) : Type 0 where
 
 module _ (e : End) (store : List ℕ) (ok : sound e store ≡ true) (most : e .capacity .0 ≤ 1024) (waits : cursor-at e < e .held .0) where
   abbrev run : ℕ
-  run = run-at-cursor e store
+  run = previous-run e store
 
   inside : cursor-at e + (run + 1) ≤ e .held .0
   inside = omega (arith, unit-whole e store ok waits)
@@ -98,7 +98,7 @@ module _ (e : End) (store : List ℕ) (ok : sound e store ≡ true) (most : e .c
 pub stays-sound : (e : End) (store : List ℕ) (n : ℕ) → sound e store ≡ true → sound (send e store n .end) store ≡ true
 stays-sound e store n ok =
     let u = sound-is e store ok .counts .untold in
-    let run = run-at-cursor e store in
+    let run = previous-run e store in
     send-either (λ (x : End). sound x store ≡ true) e store n ok
     (λ a.
     moved-either (λ (x : End). sound x store ≡ true) e run (untold-sound (with-pending false e) store 0 (omega arith) (pending-sound e store false ok))
@@ -113,4 +113,4 @@ pub keeps-store : (e : End) (store : List ℕ) (n bytes : ℕ) → store-is (sen
 unfolding store-is
 keeps-store e store n bytes =
     send-either (λ (x : End). store-is x bytes ≡ store-is e bytes) e store n refl
-    (λ a. moved-either (λ (x : End). store-is x bytes ≡ store-is e bytes) e (run-at-cursor e store) refl refl (λ w. refl))
+    (λ a. moved-either (λ (x : End). store-is x bytes ≡ store-is e bytes) e (previous-run e store) refl refl (λ w. refl))

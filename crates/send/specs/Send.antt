@@ -6,7 +6,7 @@ use lib.Dec.{ltb}
 use lib.ListN.{length, drop}
 use Rattle.ends.specs.Choice.{pick}
 use Rattle.ends.specs.State.{number-of}
-use Rattle.ends.specs.Refusals.{store-is, sound, run-at-cursor, is-down}
+use Rattle.ends.specs.Refusals.{store-is, sound, previous-run, is-down}
 use Rattle.ends.specs.declared.state.End.{End}
 use Rattle.ends.specs.declared.state.Refusal.the-variants as refusal
 use Rattle.ends.specs.declared.state.Verdict.{Verdict}
@@ -35,11 +35,11 @@ output-by (Refused r) flits output = output
 output-by Admitted flits output = flits ++ drop (length flits) output
 
 unfoldable pub send : End → List ℕ → ℕ → Sent
-send e store output = sent-by (verdict e store output) e (run-at-cursor e store)
+send e store output = sent-by (verdict e store output) e (previous-run e store)
 
 unfoldable pub send-output : End → List ℕ → List ℕ → ℕ → ℕ → List ℕ
 send-output e store output errors information =
-    output-by (verdict e store (length output)) (burst e store (run-at-cursor e store) errors information) output
+    output-by (verdict e store (length output)) (burst e store (previous-run e store) errors information) output
 
 -- the answers in this paper's numbers: of a refusal, and of the flits written
 abbrev pub refusal-number : Answer → ℕ

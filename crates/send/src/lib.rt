@@ -7,7 +7,7 @@ use numbers::FlitCount;
 ghost use mathlib.Core.Path.{_≡_};
 ghost use lib.ListN.{length};
 ghost use Rattle.crc.specs.Register.{table};
-ghost use Rattle.ends.specs.Refusals.{sound, run-at-cursor};
+ghost use Rattle.ends.specs.Refusals.{sound, previous-run};
 ghost use Rattle.send.specs.Send.{verdict as verdict-of, send as send-of, send-output};
 
 // What send answers: a refusal, or the number of flits written.
@@ -73,7 +73,7 @@ struct Found {
 // The refusals of send, in the table's order.
 fn find_verdict(e: End, store: &[u8], output: usize) -> Found
     ensures { λ r. ⌜ r .verdict ≡ verdict-of e (now (store .entry)) output ⌝ }
-    ensures { λ r. ⌜ (verdict-of e (now (store .entry)) output ≡ Verdict.Admitted → r .previous .0 ≡ run-at-cursor e (now (store .entry))) ⌝ }
+    ensures { λ r. ⌜ (verdict-of e (now (store .entry)) output ≡ Verdict.Admitted → r .previous .0 ≡ previous-run e (now (store .entry))) ⌝ }
 {
     if !judge::is_its_store(e, store.len()) {
         return refused(Refusal::Store);

@@ -24,8 +24,8 @@ use Rattle.arrivals.specs.Arrivals.{behind, newly-covered, past-sent}
 use Rattle.answers.specs.Answers.{half, replay-answer}
 use Rattle.answers.specs.declared.Answer.{Answer}
 use Rattle.answers.specs.declared.Answer.the-variants as answer
-use Rattle.acknowledge.specs.Acknowledge.{acknowledged}
-use Rattle.effects.specs.Effects.{waiting, discarded, informed, nacked, replaced, ahead-in, end-after}
+use Rattle.acknowledge.specs.Acknowledge.{sent-anew, acknowledged}
+use Rattle.effects.specs.Effects.{waiting, discarded, informed, replay-taken, ahead-in, end-after}
 use Rattle.receive.specs.Receive.{hold-after}
 use Rattle.link.specs.Stream.{Stream, owed, num, replay}
 use Rattle.link.specs.End.{Mode, run, wait, down, End}
@@ -90,11 +90,11 @@ module _ (f g : Stream) (store : List ℕ) (e : End) (d : Chain) (q : KeptEnd) (
           (credits f store (e .s) q (w .own) st fo (t - e .s .acked) le))
 
       abbrev asked : KeptEnd
-      asked = nacked (x .nack) (informed (x .information) told)
+      asked = sent-anew (x .nack) (informed (x .information) told)
 
       asked-stands : Stands f store (Step.nacked na (c .t)) asked
       asked-stands =
-          subst (λ (z : Bool). Stands f store (Step.nacked na (c .t)) (nacked z (informed (x .information) told))) (sym (s .nack))
+          subst (λ (z : Bool). Stands f store (Step.nacked na (c .t)) (sent-anew z (informed (x .information) told))) (sym (s .nack))
           (nacked-stands f store (c .t) (informed (x .information) told) na
           (restand f store (c .t) told _ refl (c .stands)))
 
@@ -148,7 +148,7 @@ module _ (f g : Stream) (store : List ℕ) (e : End) (d : Chain) (q : KeptEnd) (
           }
 
       replayed-it : (mo : Mode) → mo ≢ down → e .r .mode ≡ mo → p ≤ e .r .wanted → Goal (replay-answer q x)
-      unfolding end-after hold-after replaced
+      unfolding end-after hold-after replay-taken
       replayed-it mo live m h =
           let z : num g p ≤ num g (e .r .wanted) = num-le g p (e .r .wanted) h in
           let bk : behind q (x .start .0) ≡ num g (e .r .wanted) - num g p =
@@ -170,8 +170,8 @@ module _ (f g : Stream) (store : List ℕ) (e : End) (d : Chain) (q : KeptEnd) (
           })
 
       ahead-runs : e .r .mode ≡ run → e .r .wanted < p
-          → Came f g store e (item (replay na p n bt t) true lo hi) (ahead-in Run (replaced q store x)) hold (handed ++ [])
-      unfolding waiting replaced
+          → Came f g store e (item (replay na p n bt t) true lo hi) (ahead-in Run (replay-taken q store x)) hold (handed ++ [])
+      unfolding waiting replay-taken
       ahead-runs m h =
           record {
             e′ = record { s = again (Step.nacked na (c .t)); r = Step.placed wait p n bt (e .r) };
@@ -182,15 +182,15 @@ module _ (f g : Stream) (store : List ℕ) (e : End) (d : Chain) (q : KeptEnd) (
           }
 
       ahead-waits : e .r .mode ≡ wait → e .r .wanted < p
-          → Came f g store e (item (replay na p n bt t) true lo hi) (ahead-in Wait (replaced q store x)) hold (handed ++ [])
-      unfolding discarded replaced
+          → Came f g store e (item (replay na p n bt t) true lo hi) (ahead-in Wait (replay-taken q store x)) hold (handed ++ [])
+      unfolding discarded replay-taken
       ahead-waits m h = go (ℕ-discrete (asked .discards + 1) patience)
         where
           still : asked .mode ≡ Wait
           still = mode-is ∙ k .mode ∙ ap mode-of m
 
           go : Dec (asked .discards + 1 ≡ patience)
-              → Came f g store e (item (replay na p n bt t) true lo hi) (discarded (replaced q store x)) hold (handed ++ [])
+              → Came f g store e (item (replay na p n bt t) true lo hi) (discarded (replay-taken q store x)) hold (handed ++ [])
           go (yes u) =
               subst (λ (v : KeptEnd). Came f g store e (item (replay na p n bt t) true lo hi) v hold (handed ++ []))
               (sym (pick-true (eqb (asked .discards + 1) patience) _ _ (eq-eqb (asked .discards + 1) patience u)))
@@ -223,14 +223,14 @@ module _ (f g : Stream) (store : List ℕ) (e : End) (d : Chain) (q : KeptEnd) (
           (sym (answers ∙ pick-false (ltb (behind q (x .start .0)) half) _ _ (le-ltb (behind q (x .start .0)) half (omega (arith, start-le, w .near, w .fits .span)))))
           (record {
             moves =
-                subst (λ (v : KeptMode). Came f g store e (item (replay na p n bt t) true lo hi) (ahead-in v (replaced q store x)) hold (handed ++ []))
+                subst (λ (v : KeptMode). Came f g store e (item (replay na p n bt t) true lo hi) (ahead-in v (replay-taken q store x)) hold (handed ++ []))
                 (sym (k .mode ∙ ap mode-of m)) (go mo live m);
             counts = λ v. refl;
             hands = tt;
           })
         where
           go : (mo : Mode) → mo ≢ down → e .r .mode ≡ mo
-              → Came f g store e (item (replay na p n bt t) true lo hi) (ahead-in (mode-of mo) (replaced q store x)) hold (handed ++ [])
+              → Came f g store e (item (replay na p n bt t) true lo hi) (ahead-in (mode-of mo) (replay-taken q store x)) hold (handed ++ [])
           go run live m = ahead-runs m h
           go wait live m = ahead-waits m h
           go down live m = absurd (live refl)

@@ -26,9 +26,9 @@ use Rattle.arrivals.specs.Arrivals.{holds, damaged, straddles, skips, behind, p
 use Rattle.answers.specs.Answers.{plain-answer, run-answer}
 use Rattle.answers.specs.declared.Answer.{Answer}
 use Rattle.answers.specs.declared.Answer.the-variants as answer
-use Rattle.acknowledge.specs.Acknowledge.{acknowledged}
+use Rattle.acknowledge.specs.Acknowledge.{sent-anew, acknowledged}
 use Rattle.receive.specs.Receive
-use Rattle.effects.specs.Effects.{waiting, discarded, idled, closed, delivered, nacked, end-after}
+use Rattle.effects.specs.Effects.{waiting, discarded, idled, closed, delivered, end-after}
 use Rattle.receive.specs.Receive.{hold-after}
 use Rattle.link.specs.Stream.{Stream, owed, num, some, Flit, Item, part, control, idle, replay}
 use Rattle.link.specs.End.{run, wait, Receiver, End}
@@ -87,7 +87,7 @@ bare-size x h =
     length-append (take 56 x) (bytes 8 (content x % 2 ^ 18))
     ∙ ap₂ (λ (m n : ℕ). m + n) (length-take-le 56 x (omega arith)) (length-bytes 8 (content x % 2 ^ 18))
 
-pub same-nacked : (b : Bool) (p : KeptEnd) → Same p (nacked b p)
+pub same-nacked : (b : Bool) (p : KeptEnd) → Same p (sent-anew b p)
 same-nacked true p = record { owed = refl; gathered = refl; untold = refl; discards = refl; wanted = refl; position = refl; stalled = refl; mode = refl }
 same-nacked false p = record { owed = refl; gathered = refl; untold = refl; discards = refl; wanted = refl; position = refl; stalled = refl; mode = refl }
 

@@ -15,7 +15,6 @@ use Rattle.ends.specs.Refusals.{cursor-at, acknowledged-at}
 use Rattle.ends.specs.declared.state.End.{End}
 use Rattle.ends.proofs.Tests.{pick-true, pick-false}
 use Rattle.acknowledge.specs.Acknowledge.{freed-by, freed, sent-anew, acknowledged}
-use Rattle.effects.specs.Effects.{nacked}
 use Rattle.link.specs.Stream.{Stream, owed, num}
 use Rattle.link.specs.End.{Sender}
 use Rattle.link.specs.Step
@@ -63,7 +62,7 @@ pending-stands f store s q h =
     }
 
 -- the cursor at the oldest unit, and replay pending
-pub anew-stands : (f : Stream) (store : List ℕ) (s : Sender) (q : End) → Stands f store s q → Stands f store (Step.nacked true s) (sent-anew q)
+pub anew-stands : (f : Stream) (store : List ℕ) (s : Sender) (q : End) → Stands f store s q → Stands f store (Step.nacked true s) (sent-anew true q)
 anew-stands f store s q h =
     record {
       least = h .least;
@@ -81,7 +80,7 @@ anew-stands f store s q h =
       ring = h .ring;
     }
 
-pub nacked-stands : (f : Stream) (store : List ℕ) (s : Sender) (q : End) (na : Bool) → Stands f store s q → Stands f store (Step.nacked na s) (nacked na q)
+pub nacked-stands : (f : Stream) (store : List ℕ) (s : Sender) (q : End) (na : Bool) → Stands f store s q → Stands f store (Step.nacked na s) (sent-anew na q)
 nacked-stands f store s q true h = anew-stands f store s q h
 nacked-stands f store s q false h = h
 
@@ -184,7 +183,7 @@ module _ (f : Stream) (store : List ℕ) (s : Sender) (q : End) (l : Local most 
         let y : num f (s .oldest) ≤ num f (s .cursor) = num-le f (s .oldest) (s .cursor) (l .begun) in
         let t : ltb (cursor-at q) (freed-by q store n) ≡ true = lt-ltb (cursor-at q) (freed-by q store n) (omega (arith, cursor-off, frees)) in
         subst goal (sym (pick-true (ltb (cursor-at q) (freed-by q store n)) _ _ t))
-        (subst (λ (m : ℕ). goal (sent-anew (freed (with-acknowledged (after width (q .acknowledged .0) n) q) store m))) (sym frees)
+        (subst (λ (m : ℕ). goal (sent-anew true (freed (with-acknowledged (after width (q .acknowledged .0) n) q) store m))) (sym frees)
         (record {
           t = Step.passed (s .acked + n) o s;
           acks = passes o (omega arith) past (w .least) (w .begins) (w .ends) c;

@@ -19,13 +19,14 @@ use Rattle.flits.specs.Flits.{control-told, idle-flit, replay-flit}
 use Rattle.flits.proofs.RoundTrip.{idle-read, replay-read}
 use Rattle.ends.specs.Choice.{pick}
 use Rattle.ends.specs.Ring.{flit-at, place, stored, walked}
-use Rattle.ends.specs.Refusals.{cursor-at, sent-at, run-at-cursor, is-wait}
+use Rattle.ends.specs.State.{is-wait}
+use Rattle.ends.specs.Refusals.{cursor-at, sent-at, previous-run}
 use Rattle.ends.specs.Update.{with-untold, with-pending}
 use Rattle.ends.specs.declared.state.End.{End as KeptEnd}
 use Rattle.ends.proofs.Tests.{pick-true, pick-false, pick-either}
 use Rattle.burst.specs.Burst as sending
 use Rattle.units.specs.Units.{stored-flits, control-at-cursor, unit-sent}
-use Rattle.burst.specs.Burst.{fallen, replay-sent, unit-waits, burst, burst-flits, past-unit}
+use Rattle.burst.specs.Burst.{fallen, replay-sent, unit-at-cursor, burst, burst-flits, past-unit}
 use Rattle.link.specs.Stream.{Block, Stream, owed, num, some, Item, control, idle, replay}
 use Rattle.link.specs.End.{Mode, run, wait, down, End}
 use Rattle.link.specs.Step
@@ -128,7 +129,7 @@ module _ (Ok : Bool → Type 0) (f g : Stream) (store hold : List ℕ) (handed :
     n≤ : n ≤ 8
     n≤ = owed-le f (e .s .accepted) (e .s .cursor) fo (omega (arith, l .behind, l .given))
 
-    pub run-here : run-at-cursor q store ≡ n
+    pub run-here : previous-run q store ≡ n
     run-here =
         ap (λ (i : ℕ). walked q store i .run) (at-cursor f store (e .s) q l h fo)
         ∙ walk-at f store (e .s) q l h fo (e .s .cursor) (l .begun) (omega (arith, l .behind, l .given)) .run
@@ -460,13 +461,13 @@ module _ (Ok : Bool → Type 0) (f g : Stream) (store hold : List ℕ) (handed :
     chosen-no true x x′ c c′ p p′ h k′ = absurd (true≢false h)
     chosen-no false x x′ c c′ p p′ h k′ = k′
 
-    waits-yes : e .s .cursor < e .s .accepted → unit-waits q ≡ true
+    waits-yes : e .s .cursor < e .s .accepted → unit-at-cursor q ≡ true
     waits-yes c =
         let a : num f (e .s .cursor) < num f (e .s .accepted) = num-lt f (e .s .cursor) (e .s .accepted) c in
         let b : num f (e .s .oldest) ≤ num f (e .s .cursor) = num-le f (e .s .oldest) (e .s .cursor) (l .begun) in
         lt-ltb (cursor-at q) (q .held .0) (omega (arith, h .held, at-cursor f store (e .s) q l h fo))
 
-    waits-no : e .s .cursor ≡ e .s .accepted → unit-waits q ≡ false
+    waits-no : e .s .cursor ≡ e .s .accepted → unit-at-cursor q ≡ false
     waits-no c =
         let a : num f (e .s .cursor) ≡ num f (e .s .accepted) = ap (num f) c in
         le-ltb (cursor-at q) (q .held .0) (omega (arith, h .held, at-cursor f store (e .s) q l h fo))
@@ -551,10 +552,10 @@ module _ (Ok : Bool → Type 0) (f g : Stream) (store hold : List ℕ) (handed :
             → Emitted (burst q store n errors information) (burst-flits q n) (sending.moved q n)
         go true p c = chosen-yes (q .pending) _ _ _ _ _ _ (h .pending ∙ p) (case-replays p)
         go false p (yes c) =
-            chosen-no (q .pending) _ _ _ _ _ _ (h .pending ∙ p) (chosen-yes (unit-waits q) _ _ _ _ _ _ (waits-yes c) (case-unit p c))
+            chosen-no (q .pending) _ _ _ _ _ _ (h .pending ∙ p) (chosen-yes (unit-at-cursor q) _ _ _ _ _ _ (waits-yes c) (case-unit p c))
         go false p (no c) =
             chosen-no (q .pending) _ _ _ _ _ _ (h .pending ∙ p)
-            (chosen-no (unit-waits q) _ _ _ _ _ _ (waits-no (omega (arith, l .behind, l .given))) (case-idle p))
+            (chosen-no (unit-at-cursor q) _ _ _ _ _ _ (waits-no (omega (arith, l .behind, l .given))) (case-idle p))
 
-    pub emits-all : Emitted (burst q store (run-at-cursor q store) errors information) (burst-flits q (run-at-cursor q store)) (sending.moved q (run-at-cursor q store))
+    pub emits-all : Emitted (burst q store (previous-run q store) errors information) (burst-flits q (previous-run q store)) (sending.moved q (previous-run q store))
     emits-all = subst (λ (m : ℕ). Emitted (burst q store m errors information) (burst-flits q m) (sending.moved q m)) (sym run-here) emits

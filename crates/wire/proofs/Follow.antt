@@ -10,10 +10,11 @@ use lib.ListN.{take}
 use Rattle.crc.specs.Unit.{right}
 use Rattle.flits.specs.Fields.{fields-of, replay as replay-run, idle as idle-run}
 use Rattle.ends.specs.Choice.{pick}
+use Rattle.ends.specs.State.{is-run}
 use Rattle.ends.specs.declared.state.End.{End as KeptEnd}
 use Rattle.ends.specs.declared.state.Mode.{Mode as KeptMode}
 use Rattle.ends.proofs.Tests.{and-true, and-false-l, pick-true, pick-false}
-use Rattle.arrivals.specs.Arrivals.{holds, closes, checked, checked-in, damaged, skips}
+use Rattle.arrivals.specs.Arrivals.{holds, closes, checked, damaged, skips}
 use Rattle.answers.specs.Answers.{replay-answer, run-answer, wait-answer, mode-answer}
 use Rattle.answers.specs.declared.Answer.{Answer}
 use Rattle.link.specs.Stream.{Stream, owed, Flit, Item, part, control, idle, replay}
@@ -45,7 +46,10 @@ module _ (f g : Stream) (store : List ℕ) (e : End) (d : Chain) (q : KeptEnd) (
     abbrev Goal : Item → List ℕ → Answer → Type 0
     Goal i x A = Followed f g store hold handed e i q x A
 
-    -- what is checked, in mode run
+    -- what is checked, by mode, and in mode run
+    abbrev looked-in : KeptMode → List ℕ → List ℕ
+    looked-in m x = pick (is-run m && closes q) (take (q .gathered .0 * 64) hold ++ x) x
+
     abbrev looked : List ℕ → List ℕ
     looked x = pick (closes q) (take (q .gathered .0 * 64) hold ++ x) x
 
@@ -155,11 +159,11 @@ module _ (f g : Stream) (store : List ℕ) (e : End) (d : Chain) (q : KeptEnd) (
     follows i y w h = go (e .r .mode) refl
       where
         go : (mo : Mode) → e .r .mode ≡ mo
-            → Followed f g store hold handed e i q (flit y) (mode-answer (q .mode) q (fields-of (flit y)) (right (checked-in (q .mode) q hold (flit y))))
+            → Followed f g store hold handed e i q (flit y) (mode-answer (q .mode) q (fields-of (flit y)) (right (looked-in (q .mode) (flit y))))
         go run m =
-            subst (λ (v : KeptMode). Followed f g store hold handed e i q (flit y) (mode-answer v q (fields-of (flit y)) (right (checked-in v q hold (flit y)))))
+            subst (λ (v : KeptMode). Followed f g store hold handed e i q (flit y) (mode-answer v q (fields-of (flit y)) (right (looked-in v (flit y)))))
             (sym (k .mode ∙ ap mode-of m)) (run-follows (i .flit) (i .ok) (i .lo) (i .hi) y w m h)
         go wait m =
-            subst (λ (v : KeptMode). Followed f g store hold handed e i q (flit y) (mode-answer v q (fields-of (flit y)) (right (checked-in v q hold (flit y)))))
+            subst (λ (v : KeptMode). Followed f g store hold handed e i q (flit y) (mode-answer v q (fields-of (flit y)) (right (looked-in v (flit y)))))
             (sym (k .mode ∙ ap mode-of m)) (wait-follows (i .flit) (i .ok) (i .lo) (i .hi) y w m h)
         go down m = absurd (subst (At g d (e .s .acked) (e .r)) m (w .head .at))

@@ -15,7 +15,7 @@ use lib.Seq.{drop-cons, drop-append-le, take-at, getD-append-add}
 use Rattle.crc.specs.Unit.{right, Bytes}
 use Rattle.flits.specs.Bytes.{number}
 use Rattle.flits.specs.Fields.{fields-of}
-use Rattle.ends.specs.Refusals.{store-is, sound, is-down, run-at-cursor, last-run}
+use Rattle.ends.specs.Refusals.{store-is, sound, is-down, previous-run, last-run}
 use Rattle.ends.specs.declared.state.End.{End as KeptEnd}
 use Rattle.ends.specs.declared.state.Refusal.the-variants as refusal
 use Rattle.ends.specs.declared.state.Verdict.{Verdict}
@@ -296,7 +296,7 @@ module _ (x y : Bool) (f g : Stream) (s : System) (j : Joint x y f g s) where
     store = s .a .store
 
     abbrev n : ℕ
-    n = run-at-cursor q store
+    n = previous-run q store
 
     abbrev burst : List ℕ
     burst = sending.burst q store n errors information

@@ -12,7 +12,7 @@ use Rattle.flits.specs.declared.Fields.{Fields}
 use Rattle.ends.specs.Choice.{pick}
 use Rattle.ends.specs.declared.state.End.{End}
 use Rattle.ends.proofs.Tests.{and-true, and-false-l, pick-true, pick-false}
-use Rattle.arrivals.specs.Arrivals.{holds, closes, length-wrong, stall-wrong, straddles, damaged, skips, behind}
+use Rattle.arrivals.specs.Arrivals.{holds, closes, run-wrong, stall-wrong, straddles, damaged, skips, behind}
 use Rattle.link.specs.Stream.{some}
 use Rattle.wire.proofs.Tests.{and-false-r}
 
@@ -76,18 +76,18 @@ module _ (q : End) where
 
   module _ (x : Fields) where
     pub damaged-control : q .stalled ≡ false → x .run .0 ≤ 8 → straddles q x ≡ false → damaged q x true ≡ false
-    unfolding damaged length-wrong stall-wrong
+    unfolding damaged run-wrong stall-wrong
     damaged-control b le sd =
-        none-of-two (length-wrong q x || stall-wrong q x) (straddles q x)
-        (none-of-two (length-wrong q x) (stall-wrong q x)
+        none-of-two (run-wrong q x || stall-wrong q x) (straddles q x)
+        (none-of-two (run-wrong q x) (stall-wrong q x)
         (none-of-two (closes q && ltb 8 (x .run .0)) (q .stalled && ltb (x .run .0) 9)
         (ap (λ (t : Bool). closes q && t) (le-ltb 8 (x .run .0) le) ∙ and-false-r (closes q)) (and-false-l (q .stalled) (ltb (x .run .0) 9) b))
         (and-false-l (eqb (x .run .0) idle) (not (eqb (x .stall .0) (q .owed .0))) (ne-eqb (x .run .0) idle (λ z. omega arith))))
         sd
 
     -- a flit that is looked at alone and is no control flit
-    alone-length : 9 ≤ x .run .0 → closes q ≡ false → length-wrong q x ≡ false
-    unfolding length-wrong
+    alone-length : 9 ≤ x .run .0 → closes q ≡ false → run-wrong q x ≡ false
+    unfolding run-wrong
     alone-length le c =
         none-of-two (closes q && ltb 8 (x .run .0)) (q .stalled && ltb (x .run .0) 9) (and-false-l (closes q) (ltb 8 (x .run .0)) c)
         (ap (λ (t : Bool). q .stalled && t) (le-ltb (x .run .0) 9 le) ∙ and-false-r (q .stalled))
@@ -101,16 +101,16 @@ module _ (q : End) where
     pub damaged-idle : x .run .0 ≡ idle → x .stall .0 ≡ q .owed .0 → closes q ≡ false → damaged q x true ≡ false
     unfolding damaged stall-wrong
     damaged-idle ru ow c =
-        none-of-two (length-wrong q x || stall-wrong q x) (straddles q x)
-        (none-of-two (length-wrong q x) (stall-wrong q x) (alone-length (omega arith) c)
+        none-of-two (run-wrong q x || stall-wrong q x) (straddles q x)
+        (none-of-two (run-wrong q x) (stall-wrong q x) (alone-length (omega arith) c)
         (ap (λ (t : Bool). eqb (x .run .0) idle && not t) (eq-eqb (x .stall .0) (q .owed .0) ow) ∙ and-false-r (eqb (x .run .0) idle)))
         (alone-straddles (omega arith))
 
     pub damaged-replay : x .run .0 ≡ replay → closes q ≡ false → damaged q x true ≡ false
     unfolding damaged stall-wrong
     damaged-replay ru c =
-        none-of-two (length-wrong q x || stall-wrong q x) (straddles q x)
-        (none-of-two (length-wrong q x) (stall-wrong q x) (alone-length (omega arith) c)
+        none-of-two (run-wrong q x || stall-wrong q x) (straddles q x)
+        (none-of-two (run-wrong q x) (stall-wrong q x) (alone-length (omega arith) c)
         (and-false-l (eqb (x .run .0) idle) (not (eqb (x .stall .0) (q .owed .0))) (ne-eqb (x .run .0) idle (λ z. omega arith))))
         (alone-straddles (omega arith))
 

@@ -5,7 +5,7 @@ use mathlib.Core.Path.{_≡_}
 use mathlib.Core.Bool.{Bool}
 use mathlib.Core.List.{List, [], _∷_, _++_}
 use Prim.Native.Nat.{ℕ, suc, _*_, _^_, _≤_, _<_}
-use lib.Dec.{ltb}
+use lib.Dec.{ltb, eqb}
 use lib.ListN.{length, take}
 use Rattle.crc.specs.Unit.{Bytes}
 use Rattle.ends.specs.Choice.{pick}
@@ -15,9 +15,9 @@ use Rattle.ends.specs.declared.state.End.{End}
 use Rattle.ends.specs.declared.state.Verdict.{Verdict}
 use Rattle.ends.specs.declared.state.Verdict.the-variants.{Refused, Admitted}
 use Rattle.accept.specs.Accept.{accept, accept-store}
-use Rattle.send.specs.Send.{send, send-output}
+use Rattle.send.specs.Send.{send, send-output, flits-written}
 use Rattle.send.specs.declared.Answer.{Answer as SendAnswer}
-use Rattle.send.specs.declared.Answer.the-variants as sent-answer
+use Rattle.answers.specs.Answers.{refusal-number}
 use Rattle.answers.specs.declared.Answer.{Answer}
 use Rattle.answers.specs.declared.Answer.the-variants as answer
 use Rattle.receive.specs.Receive.{receive, receive-hold}
@@ -91,8 +91,7 @@ accepting unit x =
 
 -- send is given any link fields and any output; what it wrote goes on the wire unit by unit, and nothing where it refused
 abbrev pub written : SendAnswer → List ℕ → List ℕ
-written (sent-answer.Refused r) output = []
-written (sent-answer.Flits n) output = take (n .0 * 64) output
+written a output = take (flits-written a * 64) output
 
 abbrev pub flits-sent : ℕ → ℕ → List ℕ → Side → List ℕ
 flits-sent errors information output x =
@@ -129,17 +128,7 @@ oldest-flit w = flit-at (arriving (w .passages)) (w .taken)
 
 -- a flit whose receive is refused has not arrived
 abbrev pub arrived-by : Answer → ℕ → ℕ
-arrived-by (answer.Refused r) n = n
-arrived-by (answer.Down cause) n = suc n
-arrived-by (answer.Delivered k) n = suc n
-arrived-by answer.Held n = suc n
-arrived-by answer.Damaged n = suc n
-arrived-by answer.Skipped n = suc n
-arrived-by answer.Duplicate n = suc n
-arrived-by answer.Idle n = suc n
-arrived-by answer.Replayed n = suc n
-arrived-by answer.Ahead n = suc n
-arrived-by answer.Discarded n = suc n
+arrived-by a n = pick (eqb (refusal-number a) 0) (suc n) n
 
 -- a unit is handed on in the first part of hold: its data flits, then its control flit
 abbrev pub handed-by : Answer → List ℕ → List (List ℕ)

@@ -1,12 +1,12 @@
-use mathlib.Core.Path.{_≡_, sym, ap, _∙_}
+use mathlib.Core.Path.{_≡_, ap, _∙_}
 use Prim.Native.Nat.{ℕ, _+_}
 use native.Mathlib.Omega.{arith}
-use borrow.Author.Tests.{lt-ltb, le-ltb}
 use borrow.Author.Needs.{needs}
 use lib.Dec.{ltb}
 use Rattle.ends.specs.Ring.{begun}
-use Rattle.acknowledge.proofs.Steps.{acknowledged-anew, acknowledged-only}
-use Rattle.acknowledge.specs.Acknowledge.{last-border, freed-by}
+use Rattle.ends.specs.Update.{with-acknowledged}
+use Rattle.acknowledge.proofs.Steps.{acknowledged-is}
+use Rattle.acknowledge.specs.Acknowledge.{last-border, freed-by, sent-anew}
 use Rattle.acknowledge.proofs.Borders.{border-within}
 use Rattle.acknowledge.proofs.acknowledged.Statement.{statement}
 use Rattle.acknowledge.proofs.acknowledged.Tie as tie
@@ -37,25 +37,16 @@ sent-anew-requires c κs = search needs
 
 returns : tie.Need-returns
 returns c =
-    let a = c .before .before .before .before .before .before .before .before .before .before .before .before .args in
-    let k = c .before .before .before .before .before .before .before .find-border in
-    let d = c .before .before .before .before .before .before .before .before .before .before .flits-between .ensures in
-    let h : k .result .flits ≡ freed-by (a .e) (a .store .now) (a .flits .0) =
-    k .ensures .0 ∙ ap (λ (m : ℕ). last-border (a .e .capacity .0) (a .e .first) (begun (a .e .kept .0)) (a .store .now) (m + a .flits .0)) d in
-    let x = c .before .before .before .before .before .number-after in
-    c .sent-anew .ensures ∙ acknowledged-anew (a .e) (a .store .now) (a .flits .0) (k .result .flits) (x .result .0) (c .before .before .before .before .freed .result) (c .before .before .before .before .freed .ensures) h (x .ensures)
-    (ap (λ (m : ℕ). ltb m (k .result .flits)) (sym (c .before .before .before .before .before .before .flits-between2 .ensures)) ∙ lt-ltb _ _ (c .before .if1 .taken))
-
-returns-2 : tie.Need-returns-2
-returns-2 c =
     let a = c .before .before .before .before .before .before .before .before .before .before .before .args in
     let k = c .before .before .before .before .before .before .find-border in
     let d = c .before .before .before .before .before .before .before .before .before .flits-between .ensures in
     let h : k .result .flits ≡ freed-by (a .e) (a .store .now) (a .flits .0) =
     k .ensures .0 ∙ ap (λ (m : ℕ). last-border (a .e .capacity .0) (a .e .first) (begun (a .e .kept .0)) (a .store .now) (m + a .flits .0)) d in
     let x = c .before .before .before .before .number-after in
-    acknowledged-only (a .e) (a .store .now) (a .flits .0) (k .result .flits) (x .result .0) (c .before .before .before .freed .result) (c .before .before .before .freed .ensures) h (x .ensures)
-    (ap (λ (m : ℕ). ltb m (k .result .flits)) (sym (c .before .before .before .before .before .flits-between2 .ensures)) ∙ le-ltb _ _ (c .if1 .left))
+    let r = c .before .before .before .freed in
+    c .sent-anew .ensures
+    ∙ ap (λ (m : ℕ). sent-anew (ltb m (k .result .flits)) (with-acknowledged (x .result .0) (r .result))) (c .before .before .before .before .before .flits-between2 .ensures)
+    ∙ acknowledged-is (a .e) (a .store .now) (a .flits .0) (k .result .flits) (x .result .0) (r .result) (r .ensures) h (x .ensures)
 
 pub acknowledged-spec : {M : Type 1} → statement M
 acknowledged-spec =
@@ -68,5 +59,4 @@ acknowledged-spec =
     number-after-requires
     freed-requires
     sent-anew-requires
-    returns
-    returns-2)
+    returns)

@@ -3,8 +3,8 @@ use Rattle.arrivals.specs.Arrivals.{damaged}
 use Rattle.arrivals.proofs.damaged.Statement.{statement}
 use Rattle.arrivals.proofs.damaged.Tie as tie
 
-length-wrong-requires : tie.Need-length-wrong-requires
-length-wrong-requires c κs = search needs
+run-wrong-requires : tie.Need-run-wrong-requires
+run-wrong-requires c κs = search needs
 
 stall-wrong-requires : tie.Need-stall-wrong-requires
 stall-wrong-requires c κs = search needs
@@ -18,4 +18,4 @@ returns c = cc
 
 pub damaged-spec : {M : Type 1} → statement M
 damaged-spec =
-    tie.close (tie.spec length-wrong-requires stall-wrong-requires straddles-requires returns)
+    tie.close (tie.spec run-wrong-requires stall-wrong-requires straddles-requires returns)

@@ -12,7 +12,7 @@ use Rattle.answers.proofs.Found.{Fits}
 use Rattle.answers.specs.declared.Answer.{Answer}
 use Rattle.acknowledge.specs.Acknowledge.{Covered}
 use Rattle.effects.specs.Effects.{ahead-in, end-after}
-use Rattle.effects.proofs.Covering.{covering, told, discards-replaced}
+use Rattle.effects.proofs.Covering.{covering, told, discards-replay-taken}
 use Rattle.effects.proofs.end_after.Statement.{statement}
 use Rattle.effects.proofs.end_after.Tie as tie
 
@@ -67,8 +67,8 @@ idled-requires c κs =
 enum-told-6 : tie.Need-enum-told-6
 enum-told-6 c = search needs
 
-replaced-requires : tie.Need-replaced-requires
-replaced-requires c κs =
+replay-taken-requires : tie.Need-replay-taken-requires
+replay-taken-requires c κs =
     let s = c .before .before .before in
     covers s (newly-covered (s .args .e) (s .args .f .last .0)) (says s _ (c .enum-told6 .given .1) .within)
 
@@ -78,8 +78,8 @@ with-mode-requires c κs = search needs
 enum-told-7 : tie.Need-enum-told-7
 enum-told-7 c = search needs
 
-replaced-requires-2 : tie.Need-replaced-requires-2
-replaced-requires-2 c κs =
+replay-taken-requires-2 : tie.Need-replay-taken-requires-2
+replay-taken-requires-2 c κs =
     let s = c .before .before .before in
     covers s (newly-covered (s .args .e) (s .args .f .last .0)) (says s _ (c .enum-told7 .given .1) .within)
 
@@ -89,7 +89,7 @@ ahead-requires c κs =
     let k = counts s in
     omega (
       arith,
-      ap (λ (z : End). z .discards) (c .replaced2 .ensures) ∙ discards-replaced (s .args .e) (s .args .store .now) (s .args .f),
+      ap (λ (z : End). z .discards) (c .replay-taken2 .ensures) ∙ discards-replay-taken (s .args .e) (s .args .store .now) (s .args .f),
     )
 
 enum-told-8 : tie.Need-enum-told-8
@@ -147,13 +147,13 @@ returns-6 : tie.Need-returns-6
 unfolding end-after
 returns-6 c =
     let a = c .before .before .before .before .before .args in
-    c .with-mode .ensures ∙ ap (λ (z : End). with-mode Run (with-discards 0 z)) (c .before .replaced .ensures) ∙ sym (ap (λ (x : Answer). end-after x (a .e) (a .store .now) (a .f)) (c .before .before .enum-told6 .given .1))
+    c .with-mode .ensures ∙ ap (λ (z : End). with-mode Run (with-discards 0 z)) (c .before .replay-taken .ensures) ∙ sym (ap (λ (x : Answer). end-after x (a .e) (a .store .now) (a .f)) (c .before .before .enum-told6 .given .1))
 
 returns-7 : tie.Need-returns-7
 unfolding end-after
 returns-7 c =
     let a = c .before .before .before .before .before .args in
-    c .ahead .ensures ∙ ap (ahead-in (a .e .mode)) (c .before .replaced2 .ensures) ∙ sym (ap (λ (x : Answer). end-after x (a .e) (a .store .now) (a .f)) (c .before .before .enum-told7 .given .1))
+    c .ahead .ensures ∙ ap (ahead-in (a .e .mode)) (c .before .replay-taken2 .ensures) ∙ sym (ap (λ (x : Answer). end-after x (a .e) (a .store .now) (a .f)) (c .before .before .enum-told7 .given .1))
 
 returns-8 : tie.Need-returns-8
 unfolding end-after
@@ -193,10 +193,10 @@ end-after-spec =
     enum-told-5
     idled-requires
     enum-told-6
-    replaced-requires
+    replay-taken-requires
     with-mode-requires
     enum-told-7
-    replaced-requires-2
+    replay-taken-requires-2
     ahead-requires
     enum-told-8
     enum-told-9

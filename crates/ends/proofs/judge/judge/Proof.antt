@@ -5,7 +5,7 @@ use Prim.Native.Nat.{ℕ}
 use native.Mathlib.Omega.{arith}
 use borrow.Author.Needs.{needs}
 use Rattle.ends.specs.Choice.{pick}
-use Rattle.ends.specs.Refusals.{cursor-at, counts-sound, numbers-sound, units-sound, sound, run-at-cursor, last-run}
+use Rattle.ends.specs.Refusals.{cursor-at, counts-sound, numbers-sound, units-sound, sound, previous-run, last-run}
 use Rattle.ends.specs.declared.state.End.{End}
 use Rattle.ends.specs.Ring.{walked}
 use Rattle.ends.specs.declared.walk.Walk.{Walk}
@@ -46,15 +46,15 @@ parts-found e store a b n v w t h k l p q r u = cc
 -- the run lengths of a sound state, and of another
 runs-found : (e : End) (store : List ℕ) (n : ℕ) (v w : Walk) → n ≡ cursor-at e → v ≡ walked e store n → w ≡ walked e store (e .held .0)
     → sound e store ≡ true
-    → (v .run ≡ pick (sound e store) (run-at-cursor e store) 0) × (w .run ≡ pick (sound e store) (last-run e store) 0)
+    → (v .run ≡ pick (sound e store) (previous-run e store) 0) × (w .run ≡ pick (sound e store) (last-run e store) 0)
 runs-found e store n v w p q r s = (
-  ap (λ (x : Walk). x .run) q ∙ ap (λ (m : ℕ). walked e store m .run) p ∙ sym (pick-true (sound e store) (run-at-cursor e store) 0 s),
+  ap (λ (x : Walk). x .run) q ∙ ap (λ (m : ℕ). walked e store m .run) p ∙ sym (pick-true (sound e store) (previous-run e store) 0 s),
   ap (λ (x : Walk). x .run) r ∙ sym (pick-true (sound e store) (last-run e store) 0 s),
 )
 
 no-runs : (e : End) (store : List ℕ) → sound e store ≡ false
-    → (false ≡ sound e store) × ((0 ≡ pick (sound e store) (run-at-cursor e store) 0) × (0 ≡ pick (sound e store) (last-run e store) 0))
-no-runs e store s = (sym s, (sym (pick-false (sound e store) (run-at-cursor e store) 0 s), sym (pick-false (sound e store) (last-run e store) 0 s)))
+    → (false ≡ sound e store) × ((0 ≡ pick (sound e store) (previous-run e store) 0) × (0 ≡ pick (sound e store) (last-run e store) 0))
+no-runs e store s = (sym s, (sym (pick-false (sound e store) (previous-run e store) 0 s), sym (pick-false (sound e store) (last-run e store) 0 s)))
 
 returns : tie.Need-returns
 returns c =

@@ -1,11 +1,11 @@
 use mathlib.Core.Path.{ap, _∙_, sym, subst}
 use Prim.Native.Nat.{ℕ}
 use borrow.Author.Needs.{needs}
-use Rattle.effects.proofs.Steps.{replaced-is}
-use Rattle.effects.specs.Effects.{informed, nacked}
-use Rattle.acknowledge.specs.Acknowledge.{acknowledged, Covered}
-use Rattle.effects.proofs.replaced.Statement.{statement}
-use Rattle.effects.proofs.replaced.Tie as tie
+use Rattle.effects.proofs.Steps.{replay-taken-is}
+use Rattle.effects.specs.Effects.{informed}
+use Rattle.acknowledge.specs.Acknowledge.{sent-anew, acknowledged, Covered}
+use Rattle.effects.proofs.replay_taken.Statement.{statement}
+use Rattle.effects.proofs.replay_taken.Tie as tie
 
 newly-covered-requires : tie.Need-newly-covered-requires
 newly-covered-requires c κs = search needs
@@ -16,25 +16,25 @@ acknowledged-requires c κs = subst (λ (n : ℕ). Covered (c .before .before .a
 informed-requires : tie.Need-informed-requires
 informed-requires c κs = search needs
 
-nacked-requires : tie.Need-nacked-requires
-nacked-requires c κs = search needs
+sent-anew-requires : tie.Need-sent-anew-requires
+sent-anew-requires c κs = search needs
 
 returns : tie.Need-returns
 returns c =
     let a = c .before .before .before .before .before .before .before .args in
-    replaced-is (a .e) (a .store .now) (a .f) (c .before .before .nacked .result)
-    (c .before .before .nacked .ensures
-    ∙ ap (nacked (a .f .nack))
+    replay-taken-is (a .e) (a .store .now) (a .f) (c .before .before .sent-anew .result)
+    (c .before .before .sent-anew .ensures
+    ∙ ap (sent-anew (a .f .nack))
     (c .before .before .before .informed .ensures
     ∙ ap (informed (a .f .information))
     (c .before .before .before .before .acknowledged .ensures ∙ ap (acknowledged (a .e) (a .store .now)) (c .before .before .before .before .before .newly-covered .ensures))))
 
-pub replaced-spec : {M : Type 1} → statement M
-replaced-spec =
+pub replay-taken-spec : {M : Type 1} → statement M
+replay-taken-spec =
     tie.close
     (tie.spec
     newly-covered-requires
     acknowledged-requires
     informed-requires
-    nacked-requires
+    sent-anew-requires
     returns)
