@@ -8,7 +8,7 @@ use Rattle.text.specs.Text.{ascii, decimal, written}
 use Rattle.text.proofs.Laws.{length-decimal}
 use Rattle.words.proofs.Laws.{answer-short}
 use Rattle.show.proofs.Laws.{hex-short, state-short, ticket-short}
-use Rattle.ends.specs.Refusals.{run-at-cursor}
+use Rattle.ends.specs.Refusals.{previous-run}
 use Rattle.ends.specs.declared.state.End.{End}
 use Rattle.ends.specs.declared.state.Verdict.{Verdict}
 use Rattle.ends.specs.declared.state.Verdict.the-variants.{Refused, Admitted}
@@ -52,7 +52,7 @@ receive-head-short answer =
 -- ---- the flits written are inside the output
 
 inside-by : (e : End) (store : List ℕ) (output : ℕ) (v : Verdict) → verdict e store output ≡ v
-    → flits-written (sent-by v e (run-at-cursor e store) .answer) * 64 ≤ output
+    → flits-written (sent-by v e (previous-run e store) .answer) * 64 ≤ output
 inside-by e store output (Refused r) h = omega arith
 inside-by e store output Admitted h =
     let a = admitted e store output h in
@@ -66,7 +66,7 @@ sent-inside s store output = inside-by (s .end) (lent (s .store) store) output (
 -- ---- a whole line
 
 few-by : (e : End) (store : List ℕ) (output : ℕ) (v : Verdict) → verdict e store output ≡ v
-    → flits-written (sent-by v e (run-at-cursor e store) .answer) ≤ 10
+    → flits-written (sent-by v e (previous-run e store) .answer) ≤ 10
 few-by e store output (Refused r) h = omega arith
 few-by e store output Admitted h =
     let a = admitted e store output h in
