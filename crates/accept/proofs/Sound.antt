@@ -1,6 +1,6 @@
 -- A sound state stays sound under accept. The walk over the flits held before is as it was, and the new unit carries it on to the
 -- next border, with the run length of the unit's control flit. Assumes nothing.
-use mathlib.Core.Bool.{Bool, true, _&&_}
+use mathlib.Core.Bool.{Bool, true, _&&_, cond}
 use mathlib.Core.List.{List}
 use mathlib.Core.Path.{_≡_, refl, sym, ap, ap₂, _∙_}
 use Prim.Native.Nat.{ℕ, suc, _+_, _-_, _<_, _≤_}
@@ -10,7 +10,6 @@ use lib.Dec.{ltb}
 use lib.ListN.{length}
 use Rattle.flits.specs.Bytes.{read}
 use Rattle.flits.specs.Fields.{content, run-length, acceptable}
-use Rattle.ends.specs.Choice.{pick}
 use Rattle.ends.specs.Update.{with-held}
 use Rattle.ends.specs.Ring.{begun, stored, walked}
 use Rattle.ends.specs.Refusals.{cursor-at, sent-at, acknowledged-at, store-is, counts-sound, numbers-sound, units-sound, sound}
@@ -18,7 +17,7 @@ use Rattle.ends.specs.declared.state.End.{End}
 use Rattle.ends.specs.declared.state.Verdict.{Verdict}
 use Rattle.ends.specs.declared.state.Verdict.the-variants.{Refused, Admitted}
 use Rattle.ends.specs.declared.walk.Walk.{Walk}
-use Rattle.ends.proofs.Tests.{and-l, and-r, and-true, pick-true, pick-either}
+use Rattle.ends.proofs.Tests.{and-l, and-r, and-true, cond-true, cond-either}
 use Rattle.ends.proofs.Facts.{numbered}
 use Rattle.ends.proofs.Places.{walk-same}
 use Rattle.ends.proofs.Walks.{next-border}
@@ -41,15 +40,15 @@ more-numbers : (e : End) (n : ℕ) → numbers-sound e ≡ true → e .held .0 �
 unfolding numbers-sound
 more-numbers e n h k z =
     let f = numbered e h in
-    let p = pick-either (λ (x : ℕ). x ≤ e .kept .0) (ltb 0 (e .held .0)) (e .kept .0) 0 (λ t. omega arith) (λ t. omega arith) in
+    let p = cond-either (λ (x : ℕ). x ≤ e .kept .0) (ltb 0 (e .held .0)) (e .kept .0) 0 (λ t. omega arith) (λ t. omega arith) in
     let q : acknowledged-at e ≤ e .kept .0 = omega (arith, p, f .acknowledged) in
-    let r : pick (ltb 0 n) (e .kept .0) 0 ≡ e .kept .0 = pick-true (ltb 0 n) (e .kept .0) 0 (lt-ltb 0 n z) in
+    let r : cond (ltb 0 n) (e .kept .0) 0 ≡ e .kept .0 = cond-true (ltb 0 n) (e .kept .0) 0 (lt-ltb 0 n z) in
     cc (
       le-leb (cursor-at e) (e .held .0) (f .cursor),
       le-leb (cursor-at e) n (omega (arith, f .cursor)),
       le-leb (sent-at e) (e .held .0) (f .sent),
       le-leb (sent-at e) n (omega (arith, f .sent)),
-      le-leb (acknowledged-at e) (pick (ltb 0 (e .held .0)) (e .kept .0) 0) (f .acknowledged),
+      le-leb (acknowledged-at e) (cond (ltb 0 (e .held .0)) (e .kept .0) 0) (f .acknowledged),
       le-leb (acknowledged-at e) (e .kept .0) q,
     )
 

@@ -1,11 +1,10 @@
 -- Accept takes one unit from the transaction layer (01, "Refusals by number"; "What an end keeps"). Assumes nothing.
-use mathlib.Core.Bool.{Bool, not, _&&_}
+use mathlib.Core.Bool.{Bool, not, _&&_, cond}
 use mathlib.Core.List.{List}
 use Prim.Native.Nat.{ℕ, zero, suc, _+_, _-_, _/_, _%_}
 use lib.Dec.{ltb, leb, eqb}
 use lib.ListN.{length, drop}
 use Rattle.flits.specs.Fields.{acceptable}
-use Rattle.ends.specs.Choice.{pick}
 use Rattle.ends.specs.Update.{with-held}
 use Rattle.ends.specs.Ring.{flit-at, put-at, place}
 use Rattle.ends.specs.Refusals.{store-is, sound, is-down, last-run}
@@ -29,13 +28,13 @@ control-of unit = drop (length unit - 64) unit
 -- the refusals of accept, in the table's order
 unfoldable pub verdict : End → List ℕ → List ℕ → Verdict
 verdict e store unit =
-    pick (not (store-is e (length store))) (Refused refusal.Store)
-    (pick (not (sound e store)) (Refused refusal.State)
-    (pick (not (unit-shaped (length unit))) (Refused refusal.Shape)
-    (pick (is-down (e .mode)) (Refused refusal.Down)
-    (pick (not (eqb (flits-of unit - 1) (last-run e store))) (Refused refusal.Run)
-    (pick (not (acceptable (control-of unit))) (Refused refusal.Field)
-    (pick (ltb (e .capacity .0) (e .held .0 + flits-of unit)) (Refused refusal.Full)
+    cond (not (store-is e (length store))) (Refused refusal.Store)
+    (cond (not (sound e store)) (Refused refusal.State)
+    (cond (not (unit-shaped (length unit))) (Refused refusal.Shape)
+    (cond (is-down (e .mode)) (Refused refusal.Down)
+    (cond (not (eqb (flits-of unit - 1) (last-run e store))) (Refused refusal.Run)
+    (cond (not (acceptable (control-of unit))) (Refused refusal.Field)
+    (cond (ltb (e .capacity .0) (e .held .0 + flits-of unit)) (Refused refusal.Full)
     Admitted))))))
 
 -- the first n flits of the unit written to the places after the held flits

@@ -1,5 +1,4 @@
 // Accept takes one unit from the transaction layer: its data flits, then its control flit.
-use ends::judge;
 use ends::ring;
 use ends::state::End;
 use ends::state::Refusal;
@@ -89,12 +88,8 @@ fn store_unit(e: End, store: &mut [u8], unit: &[u8], flits: usize)
     let held = e.held.0;
     let mut n: usize = 0;
     while n < flits {
-        let to = ring::place(places, first, held + n) * 64;
-        let to_end = to + 64;
-        let from = n * 64;
-        let from_end = from + 64;
-        let flit = flits::copy::taken(&unit[from..from_end]);
-        flits::copy::put(&mut store[to..to_end], flit);
+        let to = ring::place(places, first, held + n);
+        ring::copy_flit(unit, n, store, to);
         n += 1;
     }
 }

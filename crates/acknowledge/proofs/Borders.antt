@@ -1,21 +1,20 @@
 -- The last unit border among the oldest flits: it lies at or before them, and on a border. Assumes nothing.
-use mathlib.Core.Bool.{true}
+use mathlib.Core.Bool.{true, cond}
 use mathlib.Core.List.{List}
 use mathlib.Core.Path.{_≡_}
 use Prim.Native.Nat.{ℕ, zero, suc, _+_, _≤_}
 use native.Mathlib.Omega.{arith}
 use native.Mathlib.Numerals.{add-one}
-use Rattle.ends.specs.Choice.{pick}
 use Rattle.ends.specs.Ring.{walk}
 use Rattle.ends.specs.declared.walk.Walk.{Walk}
-use Rattle.ends.proofs.Tests.{pick-either}
+use Rattle.ends.proofs.Tests.{cond-either}
 use Rattle.acknowledge.specs.Acknowledge.{last-border}
 
 module _ (places first : ℕ) (w : Walk) (store : List ℕ) where
   -- by the code's steps
   pub border-step : (n : ℕ)
       → last-border places first w store (n + 1)
-      ≡ pick (walk places first w store (n + 1) .border) (n + 1) (last-border places first w store n)
+      ≡ cond (walk places first w store (n + 1) .border) (n + 1) (last-border places first w store n)
   unfolding last-border
   border-step n = rw add-one
 
@@ -24,12 +23,12 @@ module _ (places first : ℕ) (w : Walk) (store : List ℕ) where
   border-within zero = omega arith
   border-within (suc n) =
       let h = border-within n in
-      pick-either (λ (m : ℕ). m ≤ suc n) (walk places first w store (suc n) .border) (suc n) (last-border places first w store n)
+      cond-either (λ (m : ℕ). m ≤ suc n) (walk places first w store (suc n) .border) (suc n) (last-border places first w store n)
       (λ t. omega arith) (λ t. omega arith)
 
   pub border-found : w .border ≡ true → (n : ℕ) → walk places first w store (last-border places first w store n) .border ≡ true
   unfolding last-border walk
   border-found b zero = b
   border-found b (suc n) =
-      pick-either (λ (m : ℕ). walk places first w store m .border ≡ true) (walk places first w store (suc n) .border) (suc n)
+      cond-either (λ (m : ℕ). walk places first w store m .border ≡ true) (walk places first w store (suc n) .border) (suc n)
       (last-border places first w store n) (λ t. t) (λ t. border-found b n)

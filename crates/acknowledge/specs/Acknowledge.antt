@@ -1,13 +1,12 @@
 -- An acknowledgement counts (01, Receive 4; "What an end keeps"): units all of whose flits are acknowledged leave the store.
 -- Assumes nothing.
-use mathlib.Core.Bool.{Bool, true}
+use mathlib.Core.Bool.{Bool, true, cond}
 use mathlib.Core.Path.{_≡_}
 use mathlib.Core.List.{List}
 use Prim.Native.Nat.{ℕ, zero, suc, _+_, _-_, _*_, _<_, _≤_}
 use lib.Dec.{ltb}
 use lib.ListN.{length}
 use Rattle.numbers.specs.Numbers.{width, after}
-use Rattle.ends.specs.Choice.{pick}
 use Rattle.ends.specs.Update.{with-first, with-held, with-kept, with-oldest, with-cursor, with-acknowledged, with-pending}
 use Rattle.ends.specs.Ring.{place, begun, walk, walked}
 use Rattle.ends.specs.Refusals.{cursor-at, acknowledged-at}
@@ -17,7 +16,7 @@ use Rattle.ends.specs.declared.walk.Walk.{Walk}
 -- the last unit border among the n oldest flits
 unfoldable pub last-border : ℕ → ℕ → Walk → List ℕ → ℕ → ℕ
 last-border places first w store zero = 0
-last-border places first w store (suc n) = pick (walk places first w store (suc n) .border) (suc n) (last-border places first w store n)
+last-border places first w store (suc n) = cond (walk places first w store (suc n) .border) (suc n) (last-border places first w store n)
 
 -- the oldest flits that leave the store where n more are acknowledged
 abbrev pub freed-by : End → List ℕ → ℕ → ℕ
@@ -31,7 +30,7 @@ freed e store flits =
 
 -- where all is to be sent again, the cursor at the oldest unit (none held: the next to accept), and replay pending
 abbrev pub sent-anew : Bool → End → End
-sent-anew again e = pick again (with-cursor (e .oldest .0) (with-pending true e)) e
+sent-anew again e = cond again (with-cursor (e .oldest .0) (with-pending true e)) e
 
 -- n more flits are acknowledged; if freed units pass the cursor, it moves to the oldest unit left and replay becomes pending
 unfoldable pub acknowledged : End → List ℕ → ℕ → End

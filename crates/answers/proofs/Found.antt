@@ -11,7 +11,7 @@ use Rattle.ends.specs.State.{is-run}
 use Rattle.ends.specs.declared.state.End.{End}
 use Rattle.ends.specs.declared.state.Mode.{Mode}
 use Rattle.ends.specs.declared.state.Mode.the-variants.{Run, Wait, Down}
-use Rattle.ends.proofs.Tests.{pick-true, pick-either}
+use Rattle.ends.proofs.Tests.{cond-true, cond-either}
 use Rattle.arrivals.specs.Arrivals.{holds, damaged, skips, newly-covered, past-sent, behind}
 use Rattle.answers.specs.Answers.{half, replay-answer, plain-answer, run-answer, wait-answer, mode-answer}
 use Rattle.answers.specs.declared.Answer.{Answer}
@@ -43,26 +43,26 @@ replay-fits : (e : End) (f : Fields) → Fits (replay-answer e f) e f
 unfolding replay-answer
 replay-fits e f =
     let P : Answer → Type 0 = λ a. Fits a e f in
-    pick-either P (f .short) _ _ (λ t. record {})
+    cond-either P (f .short) _ _ (λ t. record {})
     (λ t.
-    pick-either P (ltb 8 (f .previous .0)) _ _ (λ u. record {})
+    cond-either P (ltb 8 (f .previous .0)) _ _ (λ u. record {})
     (λ u.
-    pick-either P (past-sent e (newly-covered e (f .last .0))) _ _ (λ v. record {})
-    (λ v. pick-either P (ltb (behind e (f .start .0)) half) _ _ (λ w. record { within = v }) (λ w. record { within = v }))))
+    cond-either P (past-sent e (newly-covered e (f .last .0))) _ _ (λ v. record {})
+    (λ v. cond-either P (ltb (behind e (f .start .0)) half) _ _ (λ w. record { within = v }) (λ w. record { within = v }))))
 
 plain-fits : (e : End) (f : Fields) → Fits (plain-answer e f) e f
 unfolding plain-answer
 plain-fits e f =
     let P : Answer → Type 0 = λ a. Fits a e f in
-    pick-either P (f .short) _ _ (λ t. record {})
+    cond-either P (f .short) _ _ (λ t. record {})
     (λ t.
-    pick-either P (past-sent e (f .acks .0)) _ _ (λ u. record {})
+    cond-either P (past-sent e (f .acks .0)) _ _ (λ u. record {})
     (λ u.
-    pick-either P (eqb (f .run .0) idle) _ _ (λ v. record { within = u })
+    cond-either P (eqb (f .run .0) idle) _ _ (λ v. record { within = u })
     (λ v.
-    pick-either P (not (eqb (e .position .0) (e .wanted .0))) _ _ (λ w. record { within = u })
+    cond-either P (not (eqb (e .position .0) (e .wanted .0))) _ _ (λ w. record { within = u })
     (λ w.
-    pick-either P (ltb 1024 (e .untold .0 + (e .gathered .0 + 1))) _ _ (λ x. record {})
+    cond-either P (ltb 1024 (e .untold .0 + (e .gathered .0 + 1))) _ _ (λ x. record {})
     (λ x. record { within = u; room = ltb-false 1024 (e .untold .0 + (e .gathered .0 + 1)) x })))))
 
 -- of every answer that is found
@@ -70,20 +70,20 @@ pub found : (m : Mode) (e : End) (f : Fields) (b : Bool) → Fits (mode-answer m
 unfolding run-answer wait-answer
 found Run e f b =
     let P : Answer → Type 0 = λ a. Fits a e f in
-    pick-either P (holds e) _ _ (λ t. record {})
+    cond-either P (holds e) _ _ (λ t. record {})
     (λ t.
-    pick-either P (damaged e f b) _ _ (λ u. record {})
+    cond-either P (damaged e f b) _ _ (λ u. record {})
     (λ u.
-    pick-either P (skips f) _ _ (λ v. record {})
-    (λ v. pick-either P (eqb (f .run .0) replay) _ _ (λ w. replay-fits e f) (λ w. plain-fits e f))))
+    cond-either P (skips f) _ _ (λ v. record {})
+    (λ v. cond-either P (eqb (f .run .0) replay) _ _ (λ w. replay-fits e f) (λ w. plain-fits e f))))
 found Wait e f b =
     let P : Answer → Type 0 = λ a. Fits a e f in
-    pick-either P (b && eqb (f .run .0) replay) _ _ (λ t. replay-fits e f) (λ t. record {})
+    cond-either P (b && eqb (f .run .0) replay) _ _ (λ t. replay-fits e f) (λ t. record {})
 found Down e f b = record {}
 
 -- where the flit is held, nothing else is looked at
 pub held-answer : (m : Mode) (e : End) (f : Fields) (b : Bool) → (is-run m && holds e) ≡ true → mode-answer m e f b ≡ answer.Held
 unfolding run-answer
-held-answer Run e f b h = pick-true (holds e) answer.Held _ h
+held-answer Run e f b h = cond-true (holds e) answer.Held _ h
 held-answer Wait e f b h = let z : false ≡ true = h in cc
 held-answer Down e f b h = let z : false ≡ true = h in cc

@@ -1,11 +1,10 @@
 -- What receive answers, step by step of 01, "Receive": a function of the state, the fields of the arriving flit and whether the check
 -- is right. Assumes nothing.
-use mathlib.Core.Bool.{Bool, not, _&&_}
+use mathlib.Core.Bool.{Bool, not, _&&_, cond}
 use Prim.Native.Nat.{ℕ, _+_}
 use lib.Dec.{ltb, eqb}
 use Rattle.flits.specs.Fields.{replay, idle}
 use Rattle.flits.specs.declared.Fields.{Fields}
-use Rattle.ends.specs.Choice.{pick}
 use Rattle.ends.specs.State.{number-of}
 use Rattle.ends.specs.declared.state.End.{End}
 use Rattle.ends.specs.declared.state.Mode.{Mode}
@@ -23,33 +22,33 @@ half = 32768
 -- a replay flit
 unfoldable pub replay-answer : End → Fields → Answer
 replay-answer e f =
-    pick (f .short) (answer.Down 3)
-    (pick (ltb 8 (f .previous .0)) (answer.Down 2)
-    (pick (past-sent e (newly-covered e (f .last .0))) (answer.Down 1)
-    (pick (ltb (behind e (f .start .0)) half) answer.Replayed
+    cond (f .short) (answer.Down 3)
+    (cond (ltb 8 (f .previous .0)) (answer.Down 2)
+    (cond (past-sent e (newly-covered e (f .last .0))) (answer.Down 1)
+    (cond (ltb (behind e (f .start .0)) half) answer.Replayed
     answer.Ahead)))
 
 -- an idle flit, or a control flit with its data
 unfoldable pub plain-answer : End → Fields → Answer
 plain-answer e f =
-    pick (f .short) (answer.Down 3)
-    (pick (past-sent e (f .acks .0)) (answer.Down 1)
-    (pick (eqb (f .run .0) idle) answer.Idle
-    (pick (not (eqb (e .position .0) (e .wanted .0))) answer.Duplicate
-    (pick (ltb 1024 (e .untold .0 + (e .gathered .0 + 1))) (answer.Down 4)
+    cond (f .short) (answer.Down 3)
+    (cond (past-sent e (f .acks .0)) (answer.Down 1)
+    (cond (eqb (f .run .0) idle) answer.Idle
+    (cond (not (eqb (e .position .0) (e .wanted .0))) answer.Duplicate
+    (cond (ltb 1024 (e .untold .0 + (e .gathered .0 + 1))) (answer.Down 4)
     (answer.Delivered (e .gathered))))))
 
 unfoldable pub run-answer : End → Fields → Bool → Answer
 run-answer e f correct =
-    pick (holds e) answer.Held
-    (pick (damaged e f correct) answer.Damaged
-    (pick (skips f) answer.Skipped
-    (pick (eqb (f .run .0) replay) (replay-answer e f)
+    cond (holds e) answer.Held
+    (cond (damaged e f correct) answer.Damaged
+    (cond (skips f) answer.Skipped
+    (cond (eqb (f .run .0) replay) (replay-answer e f)
     (plain-answer e f))))
 
 -- in mode wait a flit that is not a right replay flit alone is discarded
 unfoldable pub wait-answer : End → Fields → Bool → Answer
-wait-answer e f correct = pick (correct && eqb (f .run .0) replay) (replay-answer e f) answer.Discarded
+wait-answer e f correct = cond (correct && eqb (f .run .0) replay) (replay-answer e f) answer.Discarded
 
 abbrev pub mode-answer : Mode → End → Fields → Bool → Answer
 mode-answer Run e f correct = run-answer e f correct

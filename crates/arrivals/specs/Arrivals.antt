@@ -1,5 +1,5 @@
 -- What is asked of an arriving flit, step by step of 01, "Receive" 1 to 3. Assumes nothing.
-use mathlib.Core.Bool.{Bool, not, _&&_, _||_}
+use mathlib.Core.Bool.{Bool, not, _&&_, _||_, cond}
 use mathlib.Core.List.{List, _++_}
 use Prim.Native.Nat.{ℕ, _+_, _*_}
 use lib.Dec.{ltb, leb, eqb}
@@ -7,7 +7,6 @@ use lib.ListN.{take}
 use Rattle.numbers.specs.Numbers.{width, difference, last-received, wanted-by}
 use Rattle.flits.specs.Fields.{idle}
 use Rattle.flits.specs.declared.Fields.{Fields}
-use Rattle.ends.specs.Choice.{pick}
 use Rattle.ends.specs.State.{is-run}
 use Rattle.ends.specs.declared.state.End.{End}
 
@@ -23,7 +22,7 @@ closes e = not (e .stalled) && ltb 0 (e .owed .0) && eqb (e .gathered .0) (e .ow
 
 -- otherwise, and in mode wait, a flit is checked alone
 abbrev pub checked : End → List ℕ → List ℕ → List ℕ
-checked e hold flit = pick (is-run (e .mode) && closes e) (take (e .gathered .0 * 64) hold ++ flit) flit
+checked e hold flit = cond (is-run (e .mode) && closes e) (take (e .gathered .0 * 64) hold ++ flit) flit
 
 -- ---- 1. damaged
 

@@ -1,6 +1,6 @@
 -- The lines that bench prints (01, "The bench ticket"): flits go into a fresh receiver one after the other, and each gives a line.
 -- Assumes nothing.
-use mathlib.Core.Bool.{Bool}
+use mathlib.Core.Bool.{Bool, cond}
 use mathlib.Core.List.{List, [], _++_}
 use Prim.Native.Nat.{ℕ, zero, suc, _+_, _/_}
 use lib.ListN.{length}
@@ -8,7 +8,6 @@ use Rattle.text.specs.Text.{ascii, decimal}
 use Rattle.words.specs.Words.{answer-word, mode-word}
 use Rattle.ticket.specs.declared.Ticket.{Ticket}
 use Rattle.ticket.specs.Ticket.{Call, nothing, after, text}
-use Rattle.ends.specs.Choice.{pick}
 use Rattle.ends.specs.State.{start}
 use Rattle.ends.specs.Ring.{flit-at}
 use Rattle.ends.specs.declared.state.End.{End}
@@ -63,4 +62,4 @@ session store kept hold input = flits store (record { kept = kept; hold = hold; 
 
 -- rest is the bytes left over; with --ticket the ticket follows
 unfoldable pub last-lines : ℕ → Ticket → Bool → List ℕ
-last-lines rest ticket ticketed = ascii "rest=" ++ decimal rest ++ ascii "\n" ++ pick ticketed (text ticket) []
+last-lines rest ticket ticketed = ascii "rest=" ++ decimal rest ++ ascii "\n" ++ cond ticketed (text ticket) []

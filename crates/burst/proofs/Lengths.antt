@@ -6,8 +6,8 @@ use Prim.Native.Nat.{ℕ, _+_}
 use lib.ListN.{length, replicate, length-append, length-replicate}
 use Rattle.crc.proofs.Sealing.{length-sealed}
 use Rattle.flits.specs.Bytes.{bytes}
-use Rattle.flits.specs.Flits.{idle-flit, replay-flit}
-use Rattle.flits.specs.declared.write.Replay.{Replay}
+use Rattle.compose.specs.Flits.{idle-flit, replay-flit}
+use Rattle.compose.specs.declared.Replay.{Replay}
 use Rattle.flits.proofs.Laws.{length-bytes}
 use Rattle.ends.specs.declared.state.End.{End}
 use Rattle.burst.specs.Burst.{replay-sent}

@@ -1,11 +1,10 @@
 -- The burst of one send and the state after it, step by step of 01, "Send". Assumes nothing.
-use mathlib.Core.Bool.{Bool, false}
+use mathlib.Core.Bool.{Bool, false, cond}
 use mathlib.Core.List.{List, _++_}
 use Prim.Native.Nat.{ℕ, _+_, _-_}
 use lib.Dec.{ltb, leb}
 use Rattle.numbers.specs.Numbers.{width, after, last-received, acknowledge-number}
-use Rattle.flits.specs.Flits.{idle-flit, replay-flit}
-use Rattle.ends.specs.Choice.{pick}
+use Rattle.compose.specs.Flits.{idle-flit, replay-flit}
 use Rattle.ends.specs.Update.{with-cursor, with-sent, with-untold, with-pending}
 use Rattle.ends.specs.State.{is-wait}
 use Rattle.ends.specs.Refusals.{cursor-at, sent-at}
@@ -14,7 +13,7 @@ use Rattle.units.specs.Units.{unit-sent}
 
 -- each idle or control flit carries the smaller of 31 and untold, which falls by it
 abbrev pub carried : ℕ → ℕ
-carried untold = pick (leb untold 31) untold 31
+carried untold = cond (leb untold 31) untold 31
 
 abbrev pub fallen : ℕ → ℕ
 fallen untold = untold - carried untold
@@ -42,27 +41,27 @@ unit-at-cursor e = ltb (cursor-at e) (e .held .0)
 -- if it has data, an idle flit goes before it, with data stalled 0; 3. else one idle flit
 unfoldable pub burst : End → List ℕ → ℕ → ℕ → ℕ → List ℕ
 burst e store run errors information =
-    pick (e .pending) (replay-sent e run errors information ++ replay-sent e run errors information)
-    (pick (unit-at-cursor e)
-    (pick (ltb 0 run)
+    cond (e .pending) (replay-sent e run errors information ++ replay-sent e run errors information)
+    (cond (unit-at-cursor e)
+    (cond (ltb 0 run)
     (idle-flit (carried (e .untold .0)) false run ++ unit-sent e store run (carried (fallen (e .untold .0))))
     (unit-sent e store run (carried (e .untold .0))))
     (idle-flit (carried (e .untold .0)) (ltb 0 run) run))
 
 -- the number of flits written
 unfoldable pub burst-flits : End → ℕ → ℕ
-burst-flits e run = pick (e .pending) 2 (pick (unit-at-cursor e) (pick (ltb 0 run) (run + 2) 1) 1)
+burst-flits e run = cond (e .pending) 2 (cond (unit-at-cursor e) (cond (ltb 0 run) (run + 2) 1) 1)
 
 -- the cursor moves past the unit, and sent with it where the cursor passes it
 abbrev pub past-unit : End → ℕ → End
 past-unit e run =
     with-cursor (after width (e .cursor .0) (run + 1))
-    (with-sent (pick (ltb (sent-at e) (cursor-at e + (run + 1))) (after width (e .cursor .0) (run + 1)) (e .sent .0)) e)
+    (with-sent (cond (ltb (sent-at e) (cursor-at e + (run + 1))) (after width (e .cursor .0) (run + 1)) (e .sent .0)) e)
 
 -- after a replay pair untold is 0 and pending cleared; untold falls once for each idle or control flit
 unfoldable pub moved : End → ℕ → End
 moved e run =
-    pick (e .pending) (with-untold 0 (with-pending false e))
-    (pick (unit-at-cursor e)
-    (with-untold (pick (ltb 0 run) (fallen (fallen (e .untold .0))) (fallen (e .untold .0))) (past-unit e run))
+    cond (e .pending) (with-untold 0 (with-pending false e))
+    (cond (unit-at-cursor e)
+    (with-untold (cond (ltb 0 run) (fallen (fallen (e .untold .0))) (fallen (e .untold .0))) (past-unit e run))
     (with-untold (fallen (e .untold .0)) e))

@@ -1,20 +1,17 @@
 // The burst of one send: two replay flits, a unit, or an idle flit. `run` is everywhere the run length of the control flit before
 // the cursor.
-use ends::judge;
+use compose::Replay;
 use ends::state::End;
 use flits::copy;
-use flits::write;
-use flits::write::Replay;
 use numbers::FlitCount;
 ghost use mathlib.Core.Path.{_≡_};
-ghost use mathlib.Core.Bool.{true};
+ghost use mathlib.Core.Bool.{true, cond};
 ghost use mathlib.Core.List.{_++_};
 ghost use Prim.Native.Nat.{_+_, _<_, _≤_};
 ghost use lib.Dec.{ltb};
 ghost use lib.ListN.{length, drop};
 ghost use Rattle.crc.specs.Register.{table};
-ghost use Rattle.flits.specs.Flits.{idle-flit};
-ghost use Rattle.ends.specs.Choice.{pick};
+ghost use Rattle.compose.specs.Flits.{idle-flit};
 ghost use Rattle.ends.specs.Refusals.{store-is, sound, previous-run};
 ghost use Rattle.burst.specs.Burst.{carried as carried-of, fallen as fallen-of, replay-sent, burst as burst-of, burst-flits, past-unit as past-unit-of, moved as moved-of};
 
@@ -81,7 +78,7 @@ fn fallen(untold: FlitCount) -> FlitCount
 
 // What untold falls to with a unit: twice where an idle flit goes before it.
 fn fallen_past(untold: FlitCount, run: FlitCount) -> FlitCount
-    ensures { λ r. ⌜ r .0 ≡ pick (ltb 0 (run .0)) (fallen-of (fallen-of (untold .0))) (fallen-of (untold .0)) ⌝ }
+    ensures { λ r. ⌜ r .0 ≡ cond (ltb 0 (run .0)) (fallen-of (fallen-of (untold .0))) (fallen-of (untold .0)) ⌝ }
 {
     let once = fallen(untold);
     if 0 < run.0 { fallen(once) } else { once }
@@ -102,7 +99,7 @@ fn write_replays(
     let mode = e.mode;
     let start = e.cursor;
     let last = numbers::last_received(e.wanted);
-    let flit = write::replay_flit(
+    let flit = compose::replay_flit(
         t,
         Replay {
             information: information,
@@ -123,7 +120,7 @@ fn write_idle(t: &[u64; 256], acks: FlitCount, stalled: bool, run: FlitCount, ou
     requires { ⌜ (now t ≡ table) × (acks .0 ≤ 31) × (run .0 ≤ 8) × (64 ≤ length (now output)) ⌝ }
     ensures { λ _. ⌜ now (output .exit) ≡ idle-flit (acks .0) stalled (run .0) ++ drop 64 (now (output .entry)) ⌝ }
 {
-    let flit = write::idle_flit(t, acks, stalled, run);
+    let flit = compose::idle_flit(t, acks, stalled, run);
     copy::put(&mut output[0..64], flit);
 }
 

@@ -6,7 +6,7 @@ use Rattle.crc.specs.Unit.{polynomial, bits, right}
 use Rattle.crc.specs.Seal.{with-check, check-of, sealed}
 use Rattle.flits.specs.Bytes.{number, bytes}
 use Rattle.flits.specs.Fields.{fields-of, acceptable}
-use Rattle.flits.specs.Flits.{control-told, idle-flit, replay-flit}
+use Rattle.compose.specs.Flits.{control-told, idle-flit, replay-flit}
 use Rattle.ends.specs.State.{store-fits, fresh, start}
 use Rattle.ends.specs.Ring.{place, begun, walk}
 use Rattle.ends.specs.Refusals.{store-is, counts-sound, numbers-sound, units-sound, sound}

@@ -10,7 +10,7 @@ use Rattle.crc.specs.Unit.{right}
 use Rattle.crc.specs.Seal.{sealed}
 use Rattle.flits.specs.Bytes.{write}
 use Rattle.flits.specs.Fields.{fields-of, run-length, replay, idle}
-use Rattle.flits.specs.Flits.{with-content, control-told}
+use Rattle.compose.specs.Flits.{with-content, control-told}
 use Rattle.flits.specs.declared.Fields.{Fields}
 use Rattle.ends.specs.State.{fresh, start}
 use Rattle.ends.specs.Update.{with-untold, with-discards, with-cursor, with-wanted, with-position, with-pending, with-mode}

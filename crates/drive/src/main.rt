@@ -5,21 +5,24 @@ use libc::STDERR_FILENO;
 use libc::STDIN_FILENO;
 use libc::STDOUT_FILENO;
 ghost use mathlib.Core.Path.{_≡_};
-ghost use Prim.Native.Nat.{_≤_};
+ghost use Prim.Native.Nat.{_+_, _≤_, _<_};
 ghost use lib.ListN.{length};
 ghost use Rattle.crc.specs.Register.{table};
 ghost use Rattle.drive_lib.specs.Drive.{Ready, Buffers};
 
-// What is kept after some of the input, and whether its lines were written.
-struct Put {
-    kept: Drive,
-    written: bool,
+// How far the input is used: what stands in its buffer from one place up to another is not. The turns left, and whether one more is to
+// come.
+struct Turn {
+    from: usize,
+    to: usize,
+    turns: u64,
+    more: bool,
+    failed: bool,
 }
 
-// What is kept after a read.
-struct Turn {
+// What is kept after the input, and whether a read or a write failed.
+struct Driven {
     kept: Drive,
-    reading: bool,
     failed: bool,
 }
 
@@ -42,8 +45,10 @@ fn drive() {
     let mut bytes = [0u8; 2000];
     let mut input = io::large_buffer();
     let mut out = [0u8; 131072];
-    drive_all(
+    let begun = drive_lib::begin(&mut store_a, &mut hold_a, &mut store_b, &mut hold_b);
+    let driven = drive_all(
         &t,
+        begun,
         &mut store_a,
         &mut hold_a,
         &mut store_b,
@@ -53,54 +58,25 @@ fn drive() {
         &mut input,
         &mut out,
     );
+    let kept = driven.kept;
+    let last = drive_lib::finish(
+        &t,
+        kept,
+        &mut store_a,
+        &mut hold_a,
+        &mut store_b,
+        &mut hold_b,
+        &line,
+        &mut bytes,
+        &mut out,
+    );
+    write_last(&out, last, driven.failed);
 }
 
 // A proved loop has to end, and nothing says that the input does. So the loop counts its turns down, from a number that no run
-// uses up.
+// uses up. In each turn, as many lines are printed as have room.
 fn drive_all(
     t: &[u64; 256],
-    store_a: &mut [u8],
-    hold_a: &mut [u8],
-    store_b: &mut [u8],
-    hold_b: &mut [u8],
-    line: &mut [u8],
-    bytes: &mut [u8],
-    input: &mut [u8],
-    out: &mut [u8],
-)
-    requires { ⌜ (now t ≡ table) × (length (now «store_a») ≡ 70000) × (length (now «hold_a») ≡ 2000) × (length (now «store_b») ≡ 70000) × (length (now «hold_b») ≡ 2000) × (length (now line) ≡ 4097) × (length (now bytes) ≡ 2000) × (8192 ≤ length (now out)) ⌝ }
-{
-    let mut kept = drive_lib::begin(store_a, hold_a, store_b, hold_b);
-    let mut reading = true;
-    let mut failed = false;
-    let mut turns: u64 = 1125899906842624;
-    while reading & (0 < turns) {
-        let turn = drive_some(
-            t,
-            kept,
-            store_a,
-            hold_a,
-            store_b,
-            hold_b,
-            line,
-            bytes,
-            input,
-            out,
-        );
-        kept = turn.kept;
-        reading = turn.reading;
-        failed = turn.failed;
-        turns -= 1;
-    }
-    if !failed {
-        let last = drive_lib::finish(t, kept, store_a, hold_a, store_b, hold_b, line, bytes, out);
-        write(out, last);
-    }
-}
-
-// Reads once, and prints the lines of the commands that are there.
-fn drive_some(
-    t: &[u64; 256],
     d: Drive,
     store_a: &mut [u8],
     hold_a: &mut [u8],
@@ -110,61 +86,16 @@ fn drive_some(
     bytes: &mut [u8],
     input: &mut [u8],
     out: &mut [u8],
-) -> Turn
-    requires { ⌜ (now t ≡ table) × Ready d × Buffers (now «store_a») (now «hold_a») (now «store_b») (now «hold_b») (now line) (now bytes) × (8192 ≤ length (now out)) ⌝ }
-    ensures { λ r. ⌜ Ready (r .kept) ⌝ }
-{
-    let got = libc::read(STDIN_FILENO, input);
-    if got < 0 {
-        os::fail(b"standard input");
-        return Turn {
-            kept: d,
-            reading: false,
-            failed: true,
-        };
-    }
-    let more = io::count(got, input);
-    let put = put_some(
-        t,
-        d,
-        store_a,
-        hold_a,
-        store_b,
-        hold_b,
-        line,
-        bytes,
-        &input[..more],
-        out,
-    );
-    let kept = put.kept;
-    Turn {
-        kept: kept,
-        reading: put.written & (0 < more),
-        failed: !put.written,
-    }
-}
-
-// Prints the lines of some of the input, as many at a time as have room.
-fn put_some(
-    t: &[u64; 256],
-    d: Drive,
-    store_a: &mut [u8],
-    hold_a: &mut [u8],
-    store_b: &mut [u8],
-    hold_b: &mut [u8],
-    line: &mut [u8],
-    bytes: &mut [u8],
-    input: &[u8],
-    out: &mut [u8],
-) -> Put
+) -> Driven
     requires { ⌜ (now t ≡ table) × Ready d × Buffers (now «store_a») (now «hold_a») (now «store_b») (now «hold_b») (now line) (now bytes) × (8192 ≤ length (now out)) ⌝ }
     ensures { λ r. ⌜ Ready (r .kept) ⌝ }
 {
     let mut kept = d;
-    let mut used: usize = 0;
-    let mut written = true;
-    while written & (used < input.len()) {
-        let rest = &input[used..];
+    let mut turn = first_turn();
+    while turn.more & (0 < turn.turns) {
+        let now = read_more(turn, input);
+        let from = now.from;
+        let to = now.to;
         let fed = drive_lib::feed(
             t,
             kept,
@@ -174,17 +105,73 @@ fn put_some(
             hold_b,
             line,
             bytes,
-            rest,
+            &input[from..to],
             out,
         );
-        let lines = fed.bytes;
+        let written = write(out, fed.bytes);
         kept = fed.drive;
-        used += fed.used;
-        written = write(out, lines);
+        turn = next_turn(now, fed.used, written);
     }
-    Put {
+    Driven {
         kept: kept,
-        written: written,
+        failed: turn.failed,
+    }
+}
+
+fn first_turn() -> Turn
+    ensures { λ r. ⌜ (r .from ≡ 0) × (r .to ≡ 0) ⌝ }
+{
+    Turn {
+        from: 0,
+        to: 0,
+        turns: 1125899906842624,
+        more: true,
+        failed: false,
+    }
+}
+
+// Reads once, if what was read is used up.
+fn read_more(turn: Turn, input: &mut [u8]) -> Turn
+    requires { ⌜ (turn .from ≤ turn .to) × (turn .to ≤ length (now input)) ⌝ }
+    ensures { λ r. ⌜ (r .from ≤ r .to) × (r .to ≤ length (now (input .entry))) × (r .turns ≡ turn .turns) ⌝ }
+{
+    if turn.from < turn.to {
+        return turn;
+    }
+    let got = libc::read(STDIN_FILENO, input);
+    if got < 0 {
+        os::fail(b"standard input");
+    }
+    let bytes = io::count(got, input);
+    Turn {
+        from: 0,
+        to: bytes,
+        turns: turn.turns,
+        more: turn.more,
+        failed: got < 0,
+    }
+}
+
+// Some of the input is used, and its lines were written or not. At the end of the input there was none to use.
+fn next_turn(turn: Turn, used: usize, written: bool) -> Turn
+    requires { ⌜ (turn .from + used ≤ turn .to) × (0 < turn .turns) ⌝ }
+    ensures { λ r. ⌜ (r .from ≡ turn .from + used) × (r .to ≡ turn .to) × (r .turns + 1 ≡ turn .turns) ⌝ }
+{
+    Turn {
+        from: turn.from + used,
+        to: turn.to,
+        turns: turn.turns - 1,
+        more: written & (turn.from < turn.to),
+        failed: turn.failed | !written,
+    }
+}
+
+// The last line, unless a read or a write failed.
+fn write_last(out: &[u8], bytes: usize, failed: bool)
+    requires { ⌜ bytes ≤ length (now out) ⌝ }
+{
+    if !failed {
+        write(out, bytes);
     }
 }
 

@@ -1,14 +1,14 @@
 -- Driving two ends from text: what the bytes of an input do, one after the other. Assumes nothing.
+use mathlib.Core.Bool.{cond}
 use mathlib.Core.List.{List, [], _∷_, _++_}
 use mathlib.Core.Path.{_≡_}
-use Prim.Native.Nat.{ℕ, zero, suc, _≤_}
+use Prim.Native.Nat.{ℕ, zero, suc, _+_, _≤_}
 use lib.Dec.{leb, ltb, eqb}
 use lib.ListN.{length, take, getD}
 use Rattle.text.specs.Text.{Puts}
-use Rattle.ends.specs.Choice.{pick}
+use Rattle.names.specs.declared.Which.{Which}
+use Rattle.names.specs.declared.Which.the-variants as which
 use Rattle.script.specs.Script.{line-of, bytes-of}
-use Rattle.script.specs.declared.Which.{Which}
-use Rattle.script.specs.declared.Which.the-variants as which
 use Rattle.script.specs.declared.Command.{Command}
 use Rattle.sides.specs.Sides.{repeated, started}
 use Rattle.lines.specs.Lines.{Kept, bad-line, did, kept-in, Sized}
@@ -42,17 +42,17 @@ answered a b which.B c bytes = record { state = record { a = a; b = did b c byte
 -- the line is whole; longer than 4,096 bytes, it is no command
 unfoldable pub ended : State → Session
 ended s =
-    pick (leb (length (s .line)) 4096)
+    cond (leb (length (s .line)) 4096)
     (answered (s .a) (s .b) (line-of (s .line) .which) (line-of (s .line) .command) (bytes-of (s .line)))
     (record { state = record { a = s .a; b = s .b; line = [] }; lines = bad-line })
 
 -- one byte more of the line; past 4,097 bytes none is remembered, since the line is no command already
 unfoldable pub longer : List ℕ → ℕ → List ℕ
-longer line c = pick (ltb (length line) 4097) (line ++ (c ∷ [])) line
+longer line c = cond (ltb (length line) 4097) (line ++ (c ∷ [])) line
 
 -- one byte of the input: a line feed ends a line
 unfoldable pub byte : State → ℕ → Session
-byte s c = pick (eqb c 10) (ended s) (record { state = record { a = s .a; b = s .b; line = longer (s .line) c }; lines = [] })
+byte s c = cond (eqb c 10) (ended s) (record { state = record { a = s .a; b = s .b; line = longer (s .line) c }; lines = [] })
 
 -- the first n bytes of an input
 unfoldable pub session : State → List ℕ → ℕ → Session
@@ -63,9 +63,19 @@ session s input (suc n) =
       lines = session s input n .lines ++ byte (session s input n .state) (getD input n 0) .lines;
     }
 
+-- how many bytes of an input are taken in n tries, into an output of so many bytes: one more in each, while a line more has room
+unfoldable pub taken : State → List ℕ → ℕ → ℕ → ℕ
+taken s input room zero = 0
+taken s input room (suc n) =
+    cond (leb (length (session s input (taken s input room n) .lines) + 8192) room) (suc (taken s input room n)) (taken s input room n)
+
 -- the end of the input: the last line may lack its line feed
 unfoldable pub finished : State → List ℕ
-finished s = pick (eqb (length (s .line)) 0) [] (ended s .lines)
+finished s = cond (eqb (length (s .line)) 0) [] (ended s .lines)
+
+-- all that is printed for an input
+unfoldable pub run : List ℕ → List ℕ
+run input = session begun input (length input) .lines ++ finished (session begun input (length input) .state)
 
 -- ---- what stands in the buffers
 

@@ -1,16 +1,18 @@
 // Driving two ends of a link from text: from what is kept and input bytes to what is kept and output bytes. The program moves the
 // bytes.
+use names::Which;
 use script::Command;
-use script::Which;
+use script::Line;
 use sides::Side;
 ghost use mathlib.Core.Path.{_≡_};
 ghost use mathlib.Core.List.{List};
-ghost use Prim.Native.Nat.{ℕ, _+_, _≤_, _<_};
+ghost use Prim.Native.Nat.{ℕ, _+_, _≤_};
 ghost use lib.ListN.{length, take};
 ghost use Rattle.crc.specs.Register.{table};
 ghost use Rattle.text.specs.Text.{Puts};
-ghost use Rattle.lines.specs.Lines.{Sized, kept-in, within, bytes-in};
-ghost use Rattle.drive_lib.specs.Drive.{unstarted, begun, answered, ended, byte, session, finished, longer, state-in, Ready, Buffers, Goes};
+ghost use Rattle.script.specs.Script.{within, bytes-in};
+ghost use Rattle.lines.specs.Lines.{Kept, Sized, kept-in};
+ghost use Rattle.drive_lib.specs.Drive.{unstarted, begun, answered, ended, byte, session, taken, finished, longer, state-in, Ready, Buffers, Goes};
 
 // What is kept beside the buffers: the two ends, and the bytes of the line so far.
 pub struct Drive {
@@ -43,11 +45,7 @@ pub fn begin(store_a: &mut [u8], hold_a: &mut [u8], store_b: &mut [u8], hold_b: 
 {
     let a = unstarted_side(store_a, hold_a);
     let b = unstarted_side(store_b, hold_b);
-    Drive {
-        a: a,
-        b: b,
-        length: 0,
-    }
+    with_no_line(a, b)
 }
 
 fn unstarted_side(store: &mut [u8], hold: &mut [u8]) -> Side
@@ -74,7 +72,7 @@ pub fn feed(
 ) -> Fed
     requires { ⌜ (now t ≡ table) × Ready d × Buffers (now «store_a») (now «hold_a») (now «store_b») (now «hold_b») (now line) (now bytes) × (8192 ≤ length (now out)) ⌝ }
     ensures { λ r. ⌜ Goes (session (state-in d (now («store_a» .entry)) (now («hold_a» .entry)) (now («store_b» .entry)) (now («hold_b» .entry)) (now (line .entry))) (now (input .entry)) (r .used)) (r .drive) (now («store_a» .exit)) (now («hold_a» .exit)) (now («store_b» .exit)) (now («hold_b» .exit)) (now (line .exit)) (now (out .entry)) 0 (r .bytes) (now (out .exit)) ⌝ }
-    ensures { λ r. ⌜ (r .used ≤ length (now (input .entry))) × (0 < length (now (input .entry)) → 0 < r .used) ⌝ }
+    ensures { λ r. ⌜ r .used ≡ taken (state-in d (now («store_a» .entry)) (now («hold_a» .entry)) (now («store_b» .entry)) (now («hold_b» .entry)) (now (line .entry))) (now (input .entry)) (length (now (out .entry))) (length (now (input .entry))) ⌝ }
 {
     let most = out.len() - ROOM;
     let mut kept = d;
@@ -179,6 +177,16 @@ fn with_length(d: Drive, n: usize) -> Drive
     next
 }
 
+fn with_no_line(a: Side, b: Side) -> Drive
+    ensures { λ r. ⌜ r ≡ record { a = a; b = b; length = 0 } ⌝ }
+{
+    Drive {
+        a: a,
+        b: b,
+        length: 0,
+    }
+}
+
 // The line is whole.
 fn end_line(
     t: &[u64; 256],
@@ -195,74 +203,40 @@ fn end_line(
     requires { ⌜ (now t ≡ table) × Ready d × Buffers (now «store_a») (now «hold_a») (now «store_b») (now «hold_b») (now line) (now bytes) × (at + 8192 ≤ length (now out)) ⌝ }
     ensures { λ r. ⌜ Goes (ended (state-in d (now («store_a» .entry)) (now («hold_a» .entry)) (now («store_b» .entry)) (now («hold_b» .entry)) (now (line .entry)))) (r .drive) (now («store_a» .exit)) (now («hold_a» .exit)) (now («store_b» .exit)) (now («hold_b» .exit)) (now (line .entry)) (now (out .entry)) at (r .at) (now (out .exit)) ⌝ }
 {
-    let n = d.length;
-    if 4096 < n {
-        let next = with_length(d, 0);
-        let after = text::put(out, at, b"bad\n");
-        return Stepped {
-            drive: next,
-            at: after,
-        };
-    }
-    let read = script::read_line(&line[0..n], bytes);
+    let read = read_command(d.length, line, bytes);
     let which = read.which;
     let command = read.command;
     match which {
-        Which::A => answer_a(t, d, command, store_a, hold_a, bytes, out, at),
-        Which::B => answer_b(t, d, command, store_b, hold_b, bytes, out, at),
+        Which::A => {
+            let done = lines::run(t, d.a, command, store_a, hold_a, bytes, out, at);
+            let drive = with_no_line(done.side, d.b);
+            Stepped {
+                drive: drive,
+                at: done.at,
+            }
+        }
+        Which::B => {
+            let done = lines::run(t, d.b, command, store_b, hold_b, bytes, out, at);
+            let drive = with_no_line(d.a, done.side);
+            Stepped {
+                drive: drive,
+                at: done.at,
+            }
+        }
     }
 }
 
-fn answer_a(
-    t: &[u64; 256],
-    d: Drive,
-    command: Command,
-    store: &mut [u8],
-    hold: &mut [u8],
-    bytes: &mut [u8],
-    out: &mut [u8],
-    at: usize,
-) -> Stepped
-    requires { ⌜ (now t ≡ table) × Ready d × (length (now store) ≡ 70000) × (length (now hold) ≡ 2000) × (length (now bytes) ≡ 2000) × within command × (at + 8192 ≤ length (now out)) ⌝ }
-    ensures { λ r. ⌜ ((other other' line : List ℕ) → Goes (answered (kept-in (d .a) (now (store .entry)) (now (hold .entry))) (kept-in (d .b) other other') Which.A command (take (bytes-in command) (now (bytes .entry)))) (r .drive) (now (store .exit)) (now (hold .exit)) other other' line (now (out .entry)) at (r .at) (now (out .exit))) ⌝ }
+// The command of a whole line. One of more than 4,096 bytes is none.
+fn read_command(n: usize, line: &[u8], bytes: &mut [u8]) -> Line
+    requires { ⌜ (n ≤ 4097) × (length (now line) ≡ 4097) × (length (now bytes) ≡ 2000) ⌝ }
+    ensures { λ r. ⌜ within (r .command) ⌝ }
+    ensures { λ r. ⌜ ((a b : Kept) → answered a b (r .which) (r .command) (take (bytes-in (r .command)) (now (bytes .exit))) ≡ ended (record { a = a; b = b; line = take n (now (line .entry)) })) ⌝ }
 {
-    let done = lines::run(t, d.a, command, store, hold, bytes, out, at);
-    let a = done.side;
-    let b = d.b;
-    let next = Drive {
-        a: a,
-        b: b,
-        length: 0,
-    };
-    Stepped {
-        drive: next,
-        at: done.at,
+    if 4096 < n {
+        return Line {
+            which: Which::A,
+            command: Command::Bad,
+        };
     }
-}
-
-fn answer_b(
-    t: &[u64; 256],
-    d: Drive,
-    command: Command,
-    store: &mut [u8],
-    hold: &mut [u8],
-    bytes: &mut [u8],
-    out: &mut [u8],
-    at: usize,
-) -> Stepped
-    requires { ⌜ (now t ≡ table) × Ready d × (length (now store) ≡ 70000) × (length (now hold) ≡ 2000) × (length (now bytes) ≡ 2000) × within command × (at + 8192 ≤ length (now out)) ⌝ }
-    ensures { λ r. ⌜ ((other other' line : List ℕ) → Goes (answered (kept-in (d .a) other other') (kept-in (d .b) (now (store .entry)) (now (hold .entry))) Which.B command (take (bytes-in command) (now (bytes .entry)))) (r .drive) other other' (now (store .exit)) (now (hold .exit)) line (now (out .entry)) at (r .at) (now (out .exit))) ⌝ }
-{
-    let done = lines::run(t, d.b, command, store, hold, bytes, out, at);
-    let a = d.a;
-    let b = done.side;
-    let next = Drive {
-        a: a,
-        b: b,
-        length: 0,
-    };
-    Stepped {
-        drive: next,
-        at: done.at,
-    }
+    script::read_line(&line[0..n], bytes)
 }

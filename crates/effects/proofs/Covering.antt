@@ -14,7 +14,7 @@ use Rattle.ends.specs.Update.{with-acknowledged}
 use Rattle.ends.specs.Refusals.{cursor-at, store-is, sound}
 use Rattle.ends.specs.declared.state.End.{End}
 use Rattle.ends.proofs.Facts.{stored-is, sound-is}
-use Rattle.ends.proofs.Tests.{pick-either}
+use Rattle.ends.proofs.Tests.{cond-either}
 use Rattle.arrivals.specs.Arrivals.{past-sent, newly-covered}
 use Rattle.answers.specs.Answers.{mode-answer}
 use Rattle.answers.specs.declared.Answer.{Answer}
@@ -55,11 +55,11 @@ discards-acknowledged : (e : End) (store : List ℕ) (n : ℕ) → acknowledged 
 unfolding acknowledged freed
 discards-acknowledged e store n =
     let z = freed (with-acknowledged (after width (e .acknowledged .0) n) e) store (freed-by e store n) in
-    pick-either (λ (z : End). z .discards ≡ e .discards) (ltb (cursor-at e) (freed-by e store n)) (sent-anew true z) z (λ t. refl) (λ t. refl)
+    cond-either (λ (z : End). z .discards ≡ e .discards) (ltb (cursor-at e) (freed-by e store n)) (sent-anew true z) z (λ t. refl) (λ t. refl)
 
 pub discards-replay-taken : (e : End) (store : List ℕ) (f : Fields) → replay-taken e store f .discards ≡ e .discards
 unfolding replay-taken
 discards-replay-taken e store f =
     let h = discards-acknowledged e store (newly-covered e (f .last .0)) in
     let z = informed (f .information) (acknowledged e store (newly-covered e (f .last .0))) in
-    pick-either (λ (z : End). z .discards ≡ e .discards) (f .nack) (sent-anew true z) z (λ t. h) (λ t. h)
+    cond-either (λ (z : End). z .discards ≡ e .discards) (f .nack) (sent-anew true z) z (λ t. h) (λ t. h)

@@ -1,12 +1,11 @@
 -- The state after each answer, step by step of 01, "Receive" 3 to 6. Assumes nothing.
-use mathlib.Core.Bool.{true}
+use mathlib.Core.Bool.{true, cond}
 use mathlib.Core.List.{List, _∷_}
 use Prim.Native.Nat.{ℕ, _+_}
 use lib.Dec.{eqb}
 use lib.ListN.{take}
 use Rattle.numbers.specs.Numbers.{width, after}
 use Rattle.flits.specs.declared.Fields.{Fields}
-use Rattle.ends.specs.Choice.{pick}
 use Rattle.ends.specs.Update.{with-information, with-owed, with-gathered, with-untold, with-discards, with-wanted, with-position, with-stalled, with-pending, with-cause, with-mode}
 use Rattle.ends.specs.declared.state.End.{End}
 use Rattle.ends.specs.declared.state.Mode.{Mode}
@@ -22,7 +21,7 @@ waiting e = with-mode Wait (with-gathered 0 (with-pending true (with-discards 0 
 
 -- discarded, and ahead met in mode wait: 1 more, and at 64 it becomes 0 and replay pending
 unfoldable pub discarded : End → End
-discarded e = pick (eqb (e .discards + 1) 64) (with-discards 0 (with-pending true e)) (with-discards (e .discards + 1) e)
+discarded e = cond (eqb (e .discards + 1) 64) (with-discards 0 (with-pending true e)) (with-discards (e .discards + 1) e)
 
 abbrev pub down : ℕ → End → End
 down cause e = with-mode Down (with-cause cause e)

@@ -1,12 +1,11 @@
 -- What the tests of specs/Refusals.antt say of the numbers, as records that `omega` reads. Assumes nothing.
-use mathlib.Core.Bool.{true, _&&_}
+use mathlib.Core.Bool.{true, _&&_, cond}
 use mathlib.Core.List.{List}
 use mathlib.Core.Path.{_≡_}
 use Prim.Native.Nat.{ℕ, _*_, _/_, _%_, _<_, _≤_}
 use native.Mathlib.Omega.{arith}
 use borrow.Author.Tests.{ltb-true, leb-true, eqb-true}
 use lib.Dec.{ltb}
-use Rattle.ends.specs.Choice.{pick}
 use Rattle.ends.specs.State.{store-fits}
 use Rattle.ends.specs.Ring.{walked}
 use Rattle.ends.specs.Refusals.{cursor-at, sent-at, acknowledged-at, store-is, counts-sound, numbers-sound, units-sound, sound}
@@ -56,7 +55,7 @@ pub record Numbered (e : End) : Type 0 where
   pub cursor : cursor-at e ≤ e .held .0
   pub cursor-sent : cursor-at e ≤ sent-at e
   pub sent : sent-at e ≤ e .held .0
-  pub acknowledged : acknowledged-at e ≤ pick (ltb 0 (e .held .0)) (e .kept .0) 0
+  pub acknowledged : acknowledged-at e ≤ cond (ltb 0 (e .held .0)) (e .kept .0) 0
   pub acknowledged-sent : acknowledged-at e ≤ sent-at e
 
 pub numbered : (e : End) → numbers-sound e ≡ true → Numbered e

@@ -1,12 +1,11 @@
 -- The tests of specs/Refusals.antt hold where the numbers are so, the other way round from Facts; and what does not touch soundness.
 -- Assumes nothing.
-use mathlib.Core.Bool.{Bool, true, not, _&&_, _||_}
+use mathlib.Core.Bool.{Bool, true, not, _&&_, _||_, cond}
 use mathlib.Core.List.{List}
 use mathlib.Core.Path.{_≡_}
 use Prim.Native.Nat.{ℕ, _≤_}
 use borrow.Author.Tests.{le-leb}
 use lib.Dec.{ltb, leb, eqb}
-use Rattle.ends.specs.Choice.{pick}
 use Rattle.ends.specs.Update.{with-untold, with-pending}
 use Rattle.ends.specs.Ring.{walked}
 use Rattle.ends.specs.Refusals.{cursor-at, sent-at, acknowledged-at, counts-sound, numbers-sound, units-sound, sound}
@@ -34,20 +33,20 @@ unfolding sound
 units-of e store h = and-r (counts-sound e && numbers-sound e) (units-sound e store) h
 
 pub numbers-hold : (e : End) → cursor-at e ≤ e .held .0 → cursor-at e ≤ sent-at e → sent-at e ≤ e .held .0
-    → acknowledged-at e ≤ pick (ltb 0 (e .held .0)) (e .kept .0) 0 → acknowledged-at e ≤ sent-at e
+    → acknowledged-at e ≤ cond (ltb 0 (e .held .0)) (e .kept .0) 0 → acknowledged-at e ≤ sent-at e
     → numbers-sound e ≡ true
 unfolding numbers-sound
 numbers-hold e h k l m n =
     let a = leb (cursor-at e) (e .held .0) in
     let b = leb (cursor-at e) (sent-at e) in
     let c = leb (sent-at e) (e .held .0) in
-    let d = leb (acknowledged-at e) (pick (ltb 0 (e .held .0)) (e .kept .0) 0) in
+    let d = leb (acknowledged-at e) (cond (ltb 0 (e .held .0)) (e .kept .0) 0) in
     let f = leb (acknowledged-at e) (sent-at e) in
     and-true (a && b && c && d) f
     (and-true (a && b && c) d
     (and-true (a && b) c (and-true a b (le-leb (cursor-at e) (e .held .0) h) (le-leb (cursor-at e) (sent-at e) k))
     (le-leb (sent-at e) (e .held .0) l))
-    (le-leb (acknowledged-at e) (pick (ltb 0 (e .held .0)) (e .kept .0) 0) m))
+    (le-leb (acknowledged-at e) (cond (ltb 0 (e .held .0)) (e .kept .0) 0) m))
     (le-leb (acknowledged-at e) (sent-at e) n)
 
 pub units-hold : (e : End) (store : List ℕ) → walked e store (e .held .0) .border ≡ true → walked e store (e .held .0) .sound ≡ true

@@ -1,6 +1,6 @@
 -- The walk over the held flits. On a border the data flits to come are those of the unit that begins there; past j of them the walk
 -- is inside that unit, and past its control flit on the next border. So between two borders lie whole units. Assumes nothing.
-use mathlib.Core.Bool.{Bool, true, false, _&&_}
+use mathlib.Core.Bool.{Bool, true, false, _&&_, cond}
 use mathlib.Core.List.{List}
 use mathlib.Core.Path.{_≡_, refl, sym, ap, ap₂, _∙_, subst}
 use Prim.Native.Nat.{ℕ, zero, suc, _+_, _-_, _<_, _≤_}
@@ -11,11 +11,10 @@ use borrow.Author.Tests.{ltb-true, ltb-false, lt-ltb, le-ltb, leb-true, ne-eqb}
 use lib.Dec.{ltb, leb, eqb}
 use Rattle.flits.specs.Bytes.{read}
 use Rattle.flits.specs.Fields.{content, link-bits, run-length, acceptable}
-use Rattle.ends.specs.Choice.{pick}
 use Rattle.ends.specs.Ring.{flit-at, place, begun, passed, walk, walked, stored}
 use Rattle.ends.specs.declared.state.End.{End}
 use Rattle.ends.specs.declared.walk.Walk.{Walk}
-use Rattle.ends.proofs.Tests.{and-l, and-r, pick-either}
+use Rattle.ends.proofs.Tests.{and-l, and-r, cond-either}
 
 -- a data flit, and a control flit
 pub passed-data : (flit : List ℕ) (w : Walk) → 0 < w .left
@@ -43,7 +42,7 @@ pub record Fair (w : Walk) : Type 0 where
 fair-passed : (flit : List ℕ) (w : Walk) → Fair w → Fair (passed flit w)
 unfolding passed acceptable
 fair-passed flit w f =
-    pick-either Fair (ltb 0 (w .left)) _ _
+    cond-either Fair (ltb 0 (w .left)) _ _
     (λ t. record { left = omega (arith, f .left, ltb-true 0 (w .left) t); at-border = λ b. absurd-border b; small = f .small })
     (λ t. record { left = omega arith; at-border = λ b. refl; small = λ s. leb-true (read run-length (content flit)) 8 (and-l (leb (read run-length (content flit)) 8) (eqb (read link-bits (content flit)) 0) (and-r (w .sound) (acceptable flit) s)) })
   where
@@ -61,7 +60,7 @@ unfolding passed
 sound-passed flit w = go (ltb 0 (w .left))
   where
     go : (b : Bool)
-        → (pick {A = Walk} b (record { left = w .left - 1; run = w .run; border = false; sound = w .sound })
+        → (cond {A = Walk} b (record { left = w .left - 1; run = w .run; border = false; sound = w .sound })
         (record {
           left = read run-length (content flit);
           run = read run-length (content flit);

@@ -1,4 +1,3 @@
-pub mod Choice
 pub mod State
 pub mod Update
 pub mod Ring

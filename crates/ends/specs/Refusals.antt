@@ -1,10 +1,9 @@
 -- What every operation refuses, row by row of the table (01, "Refusals by number"). Assumes nothing.
-use mathlib.Core.Bool.{Bool, true, false, not, _&&_, _||_}
+use mathlib.Core.Bool.{Bool, true, false, not, _&&_, _||_, cond}
 use mathlib.Core.List.{List}
 use Prim.Native.Nat.{ℕ, _/_}
 use lib.Dec.{ltb, leb, eqb}
 use Rattle.numbers.specs.Numbers.{width, difference}
-use Rattle.ends.specs.Choice.{pick}
 use Rattle.ends.specs.State.{store-fits}
 use Rattle.ends.specs.Ring.{walked}
 use Rattle.ends.specs.declared.state.End.{End}
@@ -45,7 +44,7 @@ numbers-sound e =
     leb (cursor-at e) (e .held .0)
     && leb (cursor-at e) (sent-at e)
     && leb (sent-at e) (e .held .0)
-    && leb (acknowledged-at e) (pick (ltb 0 (e .held .0)) (e .kept .0) 0)
+    && leb (acknowledged-at e) (cond (ltb 0 (e .held .0)) (e .kept .0) 0)
     && leb (acknowledged-at e) (sent-at e)
 
 -- 2 STATE, the units: the stored control flits cut the held flits into whole units, none of them breaks 7, and the cursor is on a

@@ -1,13 +1,12 @@
 -- The store as a ring of places, and how its control flits cut the held flits into units (01, "What an end keeps").
 -- Assumes nothing.
-use mathlib.Core.Bool.{true, false, _&&_}
+use mathlib.Core.Bool.{true, false, _&&_, cond}
 use mathlib.Core.List.{List, _++_}
 use Prim.Native.Nat.{ℕ, zero, suc, _+_, _-_, _*_}
 use lib.Dec.{ltb}
 use lib.ListN.{take, drop}
 use Rattle.flits.specs.Bytes.{read}
 use Rattle.flits.specs.Fields.{content, run-length, acceptable}
-use Rattle.ends.specs.Choice.{pick}
 use Rattle.ends.specs.declared.state.End.{End}
 use Rattle.ends.specs.declared.walk.Walk.{Walk}
 
@@ -20,7 +19,7 @@ put-at store place flit = take (place * 64) store ++ (flit ++ drop (place * 64 +
 
 -- the place n after the first, round a ring of so many places
 unfoldable pub place : ℕ → ℕ → ℕ → ℕ
-place places first n = pick (ltb (first + n) places) (first + n) (first + n - places)
+place places first n = cond (ltb (first + n) places) (first + n) (first + n - places)
 
 -- the held flit n after the oldest
 abbrev pub stored : End → List ℕ → ℕ → List ℕ
@@ -33,7 +32,7 @@ begun kept = record { left = kept; run = kept; border = true; sound = true }
 -- a data flit is passed; a control flit ends its unit and says how many data flits the next one has
 unfoldable pub passed : List ℕ → Walk → Walk
 passed flit w =
-    pick (ltb 0 (w .left))
+    cond (ltb 0 (w .left))
     (record { left = w .left - 1; run = w .run; border = false; sound = w .sound })
     (record {
       left = read run-length (content flit);

@@ -1,9 +1,8 @@
 -- The fresh end, tests of its mode, and the numbers of the refusals (01, "What an end keeps"; "Refusals by number"). Assumes nothing.
-use mathlib.Core.Bool.{Bool, true, false, _&&_}
+use mathlib.Core.Bool.{Bool, true, false, _&&_, cond}
 use Prim.Native.Nat.{ℕ, _/_, _%_}
 use lib.Dec.{leb, eqb}
 use lib.ListN.{replicate}
-use Rattle.ends.specs.Choice.{pick}
 use Rattle.ends.specs.declared.state.End.{End}
 use Rattle.ends.specs.declared.state.Started.{Started}
 use Rattle.ends.specs.declared.state.Mode.{Mode}
@@ -61,7 +60,7 @@ fresh capacity =
 -- start refuses with STORE, and then gives a state of capacity 0
 unfoldable pub start : ℕ → Started
 start bytes =
-    pick (store-fits bytes)
+    cond (store-fits bytes)
     (record { verdict = Admitted; end = fresh (bytes / 64) })
     (record { verdict = Refused refusal.Store; end = fresh 0 })
 

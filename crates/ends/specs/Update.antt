@@ -30,6 +30,30 @@ with-information v e =
       mode = e .mode;
     }
 
+abbrev pub with-capacity : ℕ → End → End
+with-capacity v e =
+    record {
+      information = e .information;
+      capacity = record { 0 = v };
+      first = e .first;
+      held = e .held;
+      kept = e .kept;
+      owed = e .owed;
+      gathered = e .gathered;
+      untold = e .untold;
+      discards = e .discards;
+      oldest = e .oldest;
+      cursor = e .cursor;
+      sent = e .sent;
+      acknowledged = e .acknowledged;
+      wanted = e .wanted;
+      position = e .position;
+      stalled = e .stalled;
+      pending = e .pending;
+      cause = e .cause;
+      mode = e .mode;
+    }
+
 abbrev pub with-first : ℕ → End → End
 with-first v e =
     record {

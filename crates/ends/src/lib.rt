@@ -1,5 +1,4 @@
-// One end of a link: its state, start, and what every operation refuses (01, "What an end keeps"; "Refusals by number").
-pub mod judge;
+// One end of a link: its state, start, the ring of places and the walk over it (01, "What an end keeps").
 pub mod ring;
 pub mod state;
 pub mod walk;

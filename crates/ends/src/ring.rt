@@ -1,7 +1,8 @@
-// Places of the ring.
+// Places of the ring, and flits copied to and from them.
 ghost use mathlib.Core.Path.{_≡_};
-ghost use Prim.Native.Nat.{_<_, _≤_};
-ghost use Rattle.ends.specs.Ring.{place as place-of};
+ghost use Prim.Native.Nat.{_+_, _*_, _<_, _≤_};
+ghost use lib.ListN.{length};
+ghost use Rattle.ends.specs.Ring.{place as place-of, flit-at, put-at};
 
 // The place n after the first, round a ring of so many places.
 pub fn place(places: usize, first: usize, n: usize) -> usize
@@ -11,4 +12,17 @@ pub fn place(places: usize, first: usize, n: usize) -> usize
 {
     let at = first + n;
     if at < places { at } else { at - places }
+}
+
+// Copies flit `at` of one slice over flit `over` of another.
+pub fn copy_flit(from: &[u8], at: usize, to: &mut [u8], over: usize)
+    requires { ⌜ (at * 64 + 64 ≤ length (now from)) × (over * 64 + 64 ≤ length (now to)) ⌝ }
+    ensures { λ _. ⌜ now (to .exit) ≡ put-at (now (to .entry)) over (flit-at (now (from .entry)) at) ⌝ }
+{
+    let start = at * 64;
+    let end = start + 64;
+    let flit = flits::copy::taken(&from[start..end]);
+    let first = over * 64;
+    let last = first + 64;
+    flits::copy::put(&mut to[first..last], flit);
 }

@@ -13,7 +13,7 @@ use Rattle.crc.specs.Unit.{Bytes, changed, weight, odd, right}
 use Rattle.crc.specs.Seal as seal
 use Rattle.flits.specs.Bytes as bytes
 use Rattle.flits.specs.Fields as fields
-use Rattle.flits.specs.Flits as flits
+use Rattle.compose.specs.Flits as flits
 use Rattle.ends.specs.State as state
 use Rattle.ends.specs.Ring as ring
 use Rattle.ends.specs.Ring.{flit-at}

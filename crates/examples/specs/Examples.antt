@@ -1,10 +1,10 @@
 -- Four runs. The first has damage, replay, a duplicate and deliveries both ways, the second data and damage across two flits, and both are
 -- as the buyer says: so the third test of acceptance speaks of something. The other two show that its premises are needed: without the one on replay flits, and with 37 neighbouring bits in
 -- place of 36, a wrong unit is handed on. Assumes nothing.
+use mathlib.Core.Bool.{cond}
 use mathlib.Core.List.{List, [], _∷_, _++_}
 use Prim.Native.Nat.{ℕ, suc}
 use lib.ListN.{replicate}
-use Rattle.ends.specs.Choice.{pick}
 use Rattle.receive.specs.Receive.{receive}
 use Rattle.answers.specs.declared.Answer.{Answer}
 use Rattle.wire.specs.Damage.{window-bits, Damage, NoReplay}
@@ -19,7 +19,7 @@ output = replicate 640 0
 
 -- the answers to the receives of a run
 abbrev pub answer-to : System → List Answer
-answer-to s = pick (on-the-way (s .ba)) (receive (s .a .end) (s .a .store) (s .a .hold) (oldest-flit (s .ba)) .answer ∷ []) []
+answer-to s = cond (on-the-way (s .ba)) (receive (s .a .end) (s .a .store) (s .a .hold) (oldest-flit (s .ba)) .answer ∷ []) []
 
 abbrev pub answer-in : Event → System → List Answer
 answer-in (of-a (accepts unit)) s = []

@@ -3,17 +3,16 @@
 -- two, four and eight bytes at a place gives, that a replay flit's bits 159:96 are its DL content, and that no
 -- field holds more than its bits. Assumes nothing.
 use mathlib.Core.Path.{_≡_, refl, sym, ap, ap₂, _∙_}
-use mathlib.Core.Bool.{Bool, true, false}
-use mathlib.Core.List.{List, [], _∷_, _++_, append-nil, append-assoc}
+use mathlib.Core.List.{List, [], _∷_, _++_}
 use Prim.Native.Nat.{ℕ, zero, suc, _+_, _-_, _*_, _/_, _%_, _^_, _<_, _≤_}
 use native.Mathlib.Nat.{div-div-eq-div-mul, pow-succ', zero-div, zero-mod, mul-assoc, mod-add-div, mod-eq-of-lt, div-eq-of-lt, add-mul-mod-self-left, add-mul-div-left, add-assoc}
 use native.Mathlib.Numerals.{add-one}
 use native.Mathlib.Omega.{arith}
-use lib.ListN.{length, take, drop, getD, replicate, drop-of-length-le, take-append-drop, length-drop, length-append}
+use lib.ListN.{length, take, drop, getD, replicate, take-append-drop, length-drop}
 use lib.Pow.{pow-add}
-use lib.Seq.{drop-cons, drop-drop, getD-drop, length-take-le, take-at}
+use lib.Seq.{drop-cons, drop-drop, getD-drop, length-take-le}
 use Rattle.crc.specs.Unit.{Bytes}
-use Rattle.flits.specs.Bytes.{number, bytes, Field, field, bit, read, write, mark}
+use Rattle.flits.specs.Bytes.{number, bytes, field, read}
 use Rattle.flits.specs.Fields.{content, replay-content, fields-of}
 use Rattle.flits.specs.declared.Fields.{Fields}
 
@@ -219,30 +218,6 @@ replay-field flit h high low =
     ap (λ (n : ℕ). replay-content flit / n) (pow-add 2 96 low) ∙ sym (div-div-eq-div-mul (replay-content flit) (2 ^ 96) (2 ^ low))
     ∙ ap (λ (n : ℕ). n / 2 ^ low) (replay-drop 12 flit h) in
     ap₂ (λ (q m : ℕ). q % 2 ^ m) d w
-
--- ---- writing at the end of a flit
-
-pub last-bytes : (f t : List ℕ) (at e : ℕ) → length f ≤ e → take at f ++ (t ++ drop e f) ≡ take at f ++ t
-last-bytes f t at e h = rw (drop-of-length-le f h, append-nil t)
-
--- what stands before the place past n bytes that were written
-pub bytes-written : (w f : List ℕ) (at n x : ℕ) → w ≡ take at f ++ (bytes n x ++ drop (at + n) f) → at ≤ length f
-    → take (at + n) w ≡ take at f ++ bytes n x
-bytes-written w f at n x e h =
-    ap (take (at + n)) (e ∙ sym (append-assoc (take at f) (bytes n x) (drop (at + n) f)))
-    ∙ take-at (take at f ++ bytes n x) (drop (at + n) f) (at + n)
-    (length-append (take at f) (bytes n x) ∙ ap₂ (λ (i j : ℕ). i + j) (length-take-le at f h) (length-bytes n x))
-
--- ---- a mark in a content
-
-pub mark-le : (p : Field) (b : Bool) → mark p b ≤ write p 1
-mark-le p true = omega arith
-mark-le p false = omega arith
-
--- a mark 96 bits further on
-pub mark-replay : (k : ℕ) (b : Bool) → mark (bit (96 + k)) b ≡ 2 ^ 96 * mark (bit k) b
-mark-replay k true = let e = pow-add 2 96 k in omega arith
-mark-replay k false = omega arith
 
 -- ---- no field holds more than its bits
 

@@ -1,9 +1,8 @@
-// The fields of control, idle and replay flits: read, and written (01, "Fields"). Nothing above this crate speaks of a byte or a
-// bit of a flit.
+// The fields of control, idle and replay flits, and their places: read here, written in the crate compose (01, "Fields"). Nothing above
+// these two speaks of a byte or a bit of a flit.
 pub mod copy;
-mod place;
+pub mod place;
 pub mod read;
-pub mod write;
 
 use numbers::FlitCount;
 use numbers::LastReceived;

@@ -4,11 +4,13 @@ use Prim.Native.Nat.{ℕ, _≤_}
 use native.Mathlib.Omega.{arith}
 use lib.ListN.{length}
 use Rattle.text.specs.Text.{written}
-use Rattle.ends.proofs.Tests.{pick-either}
+use Rattle.ends.proofs.Tests.{cond-either}
+use Rattle.script.specs.Script.{within}
 use Rattle.script.specs.declared.Command.{Command}
 use Rattle.script.specs.declared.Command.the-variants as command
 use Rattle.sides.specs.Sides.{started, accepts, sends, receives, pokes, fill-fits, lends, counts}
-use Rattle.lines.specs.Lines.{Kept, Did, stated, bad, refuse, start-line, accept-line, send-line, receive-line, poke-line, fill-line, lend-line, count-line, did, Sized, within}
+use Rattle.heads.specs.Heads.{refuse}
+use Rattle.lines.specs.Lines.{Kept, Did, stated, bad, start-line, accept-line, send-line, receive-line, poke-line, fill-line, lend-line, count-line, did, Sized}
 
 stated-sized : (head : List ℕ) (k : Kept) → Sized (k .side) → Sized (stated head k .kept .side)
 unfolding stated
@@ -31,7 +33,7 @@ did-sized k (command.Send n errors information) bytes h w = stated-sized _ _ (re
 did-sized k (command.Receive n) bytes h w = stated-sized _ _ (record { kept = h .kept; store = h .store; hold = h .hold })
 did-sized k (command.Poke f v) bytes h w = stated-sized _ _ (record { kept = h .kept; store = h .store; hold = h .hold })
 did-sized k (command.Fill offset n) bytes h w =
-    pick-either (λ (d : Did). Sized (d .kept .side)) (fill-fits (k .side .kept) offset (length bytes))
+    cond-either (λ (d : Did). Sized (d .kept .side)) (fill-fits (k .side .kept) offset (length bytes))
     (stated (refuse "fill refuse=" 0) (record { side = k .side; store = written (k .store) offset bytes; hold = k .hold })) (bad k)
     (λ _. stated-sized _ _ h)
     (λ _. bad-sized k h)

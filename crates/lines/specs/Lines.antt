@@ -1,23 +1,15 @@
 -- What each command of a script does to an end, and the line that it prints. Assumes nothing.
-use mathlib.Core.Bool.{Bool, true, _&&_}
-use mathlib.Core.List.{List, [], _∷_, _++_}
+use mathlib.Core.Bool.{cond}
+use mathlib.Core.List.{List, _++_}
 use mathlib.Core.Path.{_≡_}
-use Prim.Native.Nat.{ℕ, _*_, _≤_}
-use Prim.Native.String.{String}
-use lib.Dec.{eqb}
-use lib.ListN.{length, take, drop}
-use Rattle.text.specs.Text.{ascii, decimal, written, Puts}
-use Rattle.words.specs.Words.{answer-word}
-use Rattle.show.specs.Show.{hex, state-text, ticket-text}
-use Rattle.ends.specs.Choice.{pick}
+use Prim.Native.Nat.{ℕ, _≤_}
+use lib.ListN.{length, take}
+use Rattle.text.specs.Text.{ascii, written, Puts}
+use Rattle.show.specs.Show.{state-text, ticket-text}
+use Rattle.heads.specs.Heads.{refuse, send-head, receive-head}
 use Rattle.ends.specs.State.{verdict-number}
-use Rattle.answers.specs.Answers.{refusal-number, data-delivered}
-use Rattle.answers.specs.declared.Answer.{Answer}
-use Rattle.send.specs.Send.{refusal-number as send-refusal, flits-written}
-use Rattle.send.specs.declared.Answer.{Answer as SendAnswer}
-use Rattle.script.specs.Script.{most}
-use Rattle.script.specs.declared.Field.{Field}
-use Rattle.script.specs.declared.Key.{Key}
+use Rattle.names.specs.declared.Field.{Field}
+use Rattle.names.specs.declared.Key.{Key}
 use Rattle.script.specs.declared.Command.{Command}
 use Rattle.script.specs.declared.Command.the-variants as command
 use Rattle.sides.specs.declared.Side.{Side}
@@ -53,9 +45,6 @@ bad k = record { kept = k; line = bad-line }
 
 -- ---- the commands: OP refuse=N [flits=K out=HEX] [answer=WORD data=K] STATE
 
-abbrev pub refuse : String → ℕ → List ℕ
-refuse op n = ascii op ++ decimal n
-
 unfoldable pub start-line : ℕ → Did
 start-line bytes =
     stated (refuse "start refuse=" (verdict-number (started bytes .verdict)))
@@ -66,29 +55,10 @@ accept-line k unit =
     stated (refuse "accept refuse=" (verdict-number (accepts (k .side) (k .store) unit .verdict)))
     (record { side = accepts (k .side) (k .store) unit .side; store = accepts-store (k .side) (k .store) unit; hold = k .hold })
 
--- if a byte of the output past the flits is no longer 165, spill follows
-unfoldable pub untouched : List ℕ → Bool
-untouched [] = true
-untouched (b ∷ bytes) = eqb b 165 && untouched bytes
-
-unfoldable pub spill : List ℕ → List ℕ
-spill rest = pick (untouched rest) [] (ascii " spill")
-
-unfoldable pub send-head : SendAnswer → List ℕ → List ℕ
-send-head answer output =
-    refuse "send refuse=" (send-refusal answer) ++ (ascii " flits=" ++ decimal (flits-written answer)) ++ ascii " out="
-    ++ hex (take (flits-written answer * 64) output)
-    ++ spill (drop (flits-written answer * 64) output)
-
 unfoldable pub send-line : Kept → ℕ → ℕ → ℕ → Did
 send-line k output errors information =
     stated (send-head (sends (k .side) (k .store) output .answer) (sends-output (k .side) (k .store) output errors information))
     (record { side = sends (k .side) (k .store) output .side; store = k .store; hold = k .hold })
-
-unfoldable pub receive-head : Answer → List ℕ
-receive-head answer =
-    refuse "receive refuse=" (refusal-number answer) ++ ascii " answer=" ++ answer-word answer
-    ++ (ascii " data=" ++ decimal (data-delivered answer))
 
 unfoldable pub receive-line : Kept → List ℕ → Did
 receive-line k flit =
@@ -104,7 +74,7 @@ poke-line k f v = stated (refuse "poke refuse=" 0) (record { side = pokes (k .si
 
 unfoldable pub fill-line : Kept → ℕ → List ℕ → Did
 fill-line k offset bytes =
-    pick (fill-fits (k .side .kept) offset (length bytes))
+    cond (fill-fits (k .side .kept) offset (length bytes))
     (stated (refuse "fill refuse=" 0) (record { side = k .side; store = written (k .store) offset bytes; hold = k .hold }))
     (bad k)
 
@@ -147,29 +117,3 @@ pub record Sized (s : Side) : Type 0 where
 pub record Leaves (d : Did) (s : Side) (store hold out : List ℕ) (at next : ℕ) (after : List ℕ) : Type 0 where
   pub kept : kept-in s store hold ≡ d .kept
   pub line : Puts out at (d .line) next after
-
--- the values of a command are in range
-unfoldable pub within : Command → Type 0
-within command.Bad = Unit
-within (command.Start n) = n ≤ 70000
-within (command.Accept n) = n ≤ 2000
-within (command.Send n errors information) = n ≤ 2000
-within (command.Receive n) = n ≤ 2000
-within (command.Poke f v) = v ≤ most f
-within (command.Fill offset n) = n ≤ 2000
-within (command.Lend store hold) = (store ≤ 70000) × (hold ≤ 2000)
-within command.Ticket = Unit
-within (command.Count key n) = Unit
-
--- the number of bytes of a command's HEX
-unfoldable pub bytes-in : Command → ℕ
-bytes-in command.Bad = 0
-bytes-in (command.Start n) = 0
-bytes-in (command.Accept n) = n
-bytes-in (command.Send n errors information) = 0
-bytes-in (command.Receive n) = n
-bytes-in (command.Poke f v) = 0
-bytes-in (command.Fill offset n) = n
-bytes-in (command.Lend store hold) = 0
-bytes-in command.Ticket = 0
-bytes-in (command.Count key n) = 0

@@ -1,23 +1,18 @@
 // One command: what it does to a side, and its line.
-use answers::Answer;
 use ends::state::End;
-use ends::state::Refusal;
-use ends::state::Verdict;
+use names::Field;
+use names::Key;
 use script::Command;
-use script::Field;
-use script::Key;
 use sides::Side;
 ghost use mathlib.Core.Path.{_≡_};
 ghost use mathlib.Core.List.{_++_};
-ghost use Prim.Native.Nat.{_+_, _*_, _≤_};
+ghost use Prim.Native.Nat.{_+_, _≤_};
 ghost use lib.ListN.{length, take};
 ghost use Rattle.crc.specs.Register.{table};
 ghost use Rattle.text.specs.Text.{decimal, Puts};
-ghost use Rattle.ends.specs.State.{number-of as number-of-refusal, verdict-number as verdict-number-of};
-ghost use Rattle.answers.specs.Answers.{refusal-number};
-ghost use Rattle.send.specs.Send.{refusal-number as send-refusal, flits-written};
-ghost use Rattle.script.specs.Script.{most};
-ghost use Rattle.lines.specs.Lines.{kept-in, state-of, Sized, Leaves, within, bytes-in, untouched as untouched-of, spill, send-head, receive-head, did, bad-line, start-line, accept-line, send-line, receive-line, poke-line, fill-line, lend-line, ticket-line, count-line};
+ghost use Rattle.names.specs.Names.{most};
+ghost use Rattle.script.specs.Script.{within, bytes-in};
+ghost use Rattle.lines.specs.Lines.{kept-in, state-of, Sized, Leaves, did, bad-line, start-line, accept-line, send-line, receive-line, poke-line, fill-line, lend-line, count-line};
 
 // The side after a command, and the place after its line.
 pub struct Done {
@@ -40,7 +35,13 @@ pub fn run(
     ensures { λ r. ⌜ Leaves (did (kept-in side (now (store .entry)) (now (hold .entry))) command (take (bytes-in command) (now (bytes .entry)))) (r .side) (now (store .exit)) (now (hold .exit)) (now (out .entry)) at (r .at) (now (out .exit)) ⌝ }
 {
     match command {
-        Command::Bad => bad(side, out, at),
+        Command::Bad => {
+            let next = bad(out, at);
+            Done {
+                side: side,
+                at: next,
+            }
+        }
         Command::Start(n) => start(store, hold, n, out, at),
         Command::Accept(n) => accept(side, store, hold, &bytes[0..n], out, at),
         Command::Send(n, errors, information) => send(
@@ -56,23 +57,32 @@ pub fn run(
         ),
         Command::Receive(n) => receive(t, side, store, hold, &bytes[0..n], out, at),
         Command::Poke(field, value) => poke(side, store, hold, field, value, out, at),
-        Command::Fill(offset, n) => fill(side, store, hold, offset, &bytes[0..n], out, at),
+        Command::Fill(offset, n) => {
+            let next = fill(side, store, hold, offset, &bytes[0..n], out, at);
+            Done {
+                side: side,
+                at: next,
+            }
+        }
         Command::Lend(lent, held) => lend(side, store, hold, lent, held, out, at),
-        Command::Ticket => ticket(side, out, at),
+        Command::Ticket => {
+            let counts = side.ticket;
+            let next = show::put_ticket(out, at, counts);
+            Done {
+                side: side,
+                at: next,
+            }
+        }
         Command::Count(key, n) => count(side, store, hold, key, n, out, at),
     }
 }
 
 // A line that is no command changes nothing.
-pub fn bad(side: Side, out: &mut [u8], at: usize) -> Done
+fn bad(out: &mut [u8], at: usize) -> usize
     requires { ⌜ at + 8192 ≤ length (now out) ⌝ }
-    ensures { λ r. ⌜ (r .side ≡ side) × Puts (now (out .entry)) at bad-line (r .at) (now (out .exit)) ⌝ }
+    ensures { λ r. ⌜ Puts (now (out .entry)) at bad-line r (now (out .exit)) ⌝ }
 {
-    let next = text::put(out, at, b"bad\n");
-    Done {
-        side: side,
-        at: next,
-    }
+    text::put(out, at, b"bad\n")
 }
 
 fn start(store: &mut [u8], hold: &mut [u8], bytes: usize, out: &mut [u8], at: usize) -> Done
@@ -82,7 +92,7 @@ fn start(store: &mut [u8], hold: &mut [u8], bytes: usize, out: &mut [u8], at: us
     let took = sides::start(store, hold, bytes);
     let side = took.side;
     let verdict = took.verdict;
-    let number = verdict_number(verdict);
+    let number = heads::verdict_number(verdict);
     let next = put_plain(out, at, b"start refuse=", number, side, store, hold);
     Done {
         side: side,
@@ -97,7 +107,7 @@ fn accept(side: Side, store: &mut [u8], hold: &[u8], unit: &[u8], out: &mut [u8]
     let took = sides::accept(side, store, unit);
     let after = took.side;
     let verdict = took.verdict;
-    let number = verdict_number(verdict);
+    let number = heads::verdict_number(verdict);
     let next = put_plain(out, at, b"accept refuse=", number, after, store, hold);
     Done {
         side: after,
@@ -122,7 +132,7 @@ fn send(
     let sent = sides::send(t, side, store, output, errors, information);
     let after = sent.side;
     let answer = sent.answer;
-    let head = put_send(out, at, answer, output);
+    let head = heads::put_send(out, at, answer, output);
     let next = put_side(out, head, after, store, hold);
     Done {
         side: after,
@@ -145,7 +155,7 @@ fn receive(
     let received = sides::receive(t, side, store, hold, flit);
     let after = received.side;
     let answer = received.answer;
-    let head = put_receive(out, at, answer);
+    let head = heads::put_receive(out, at, answer);
     let next = put_side(out, head, after, store, hold);
     Done {
         side: after,
@@ -181,19 +191,15 @@ fn fill(
     bytes: &[u8],
     out: &mut [u8],
     at: usize,
-) -> Done
+) -> usize
     requires { ⌜ Sized side × (length (now store) ≡ 70000) × (length (now hold) ≡ 2000) × (at + 8192 ≤ length (now out)) ⌝ }
-    ensures { λ r. ⌜ Leaves (fill-line (kept-in side (now (store .entry)) (now (hold .entry))) offset (now (bytes .entry))) (r .side) (now (store .exit)) (now (hold .entry)) (now (out .entry)) at (r .at) (now (out .exit)) ⌝ }
+    ensures { λ r. ⌜ Leaves (fill-line (kept-in side (now (store .entry)) (now (hold .entry))) offset (now (bytes .entry))) side (now (store .exit)) (now (hold .entry)) (now (out .entry)) at r (now (out .exit)) ⌝ }
 {
     let inside = sides::fill(side.kept, store, offset, bytes);
     if !inside {
-        return bad(side, out, at);
+        return bad(out, at);
     }
-    let next = put_plain(out, at, b"fill refuse=", 0, side, store, hold);
-    Done {
-        side: side,
-        at: next,
-    }
+    put_plain(out, at, b"fill refuse=", 0, side, store, hold)
 }
 
 fn lend(
@@ -212,18 +218,6 @@ fn lend(
     let next = put_plain(out, at, b"lend refuse=", 0, after, store, hold);
     Done {
         side: after,
-        at: next,
-    }
-}
-
-fn ticket(side: Side, out: &mut [u8], at: usize) -> Done
-    requires { ⌜ at + 8192 ≤ length (now out) ⌝ }
-    ensures { λ r. ⌜ (r .side ≡ side) × Puts (now (out .entry)) at (ticket-line side) (r .at) (now (out .exit)) ⌝ }
-{
-    let counts = side.ticket;
-    let next = show::put_ticket(out, at, counts);
-    Done {
-        side: side,
         at: next,
     }
 }
@@ -265,114 +259,4 @@ fn put_side(out: &mut [u8], at: usize, side: Side, store: &[u8], hold: &[u8]) ->
     let kept = side.kept;
     let held = End::HOLD;
     show::put_state(out, at, side.end, &store[0..kept], &hold[0..held])
-}
-
-// Flits written, and their bytes; then whether a byte past them is no longer 165.
-fn put_send(out: &mut [u8], at: usize, answer: send::Answer, output: &[u8]) -> usize
-    requires { ⌜ (length (now output) ≤ 2000) × (flits-written answer * 64 ≤ length (now output)) × (at + 4200 ≤ length (now out)) ⌝ }
-    ensures { λ r. ⌜ Puts (now (out .entry)) at (send-head answer (now (output .entry))) r (now (out .exit)) ⌝ }
-{
-    let bytes = flits_of(answer) * 64;
-    let refused = text::put_field(out, at, b"send refuse=", send_refusal(answer));
-    let flits = text::put_field(out, refused, b" flits=", flits_of(answer) as u64);
-    let word = text::put(out, flits, b" out=");
-    let written = show::put_hex(out, word, &output[0..bytes]);
-    put_spill(out, written, &output[bytes..])
-}
-
-fn put_spill(out: &mut [u8], at: usize, rest: &[u8]) -> usize
-    requires { ⌜ at + 6 ≤ length (now out) ⌝ }
-    ensures { λ r. ⌜ Puts (now (out .entry)) at (spill (now (rest .entry))) r (now (out .exit)) ⌝ }
-{
-    if untouched(rest) {
-        at
-    } else {
-        text::put(out, at, b" spill")
-    }
-}
-
-// Whether each byte is 165.
-fn untouched(bytes: &[u8]) -> bool
-    ensures { λ r. ⌜ r ≡ untouched-of (now (bytes .entry)) ⌝ }
-{
-    let mut i = 0;
-    while i < bytes.len() {
-        if bytes[i] != 165 {
-            return false;
-        }
-        i += 1;
-    }
-    true
-}
-
-// The answer's word, and the data flits that it delivered.
-fn put_receive(out: &mut [u8], at: usize, answer: Answer) -> usize
-    requires { ⌜ at + 200 ≤ length (now out) ⌝ }
-    ensures { λ r. ⌜ Puts (now (out .entry)) at (receive-head answer) r (now (out .exit)) ⌝ }
-{
-    let data = words::data_delivered(answer);
-    let refused = text::put_field(out, at, b"receive refuse=", receive_refusal(answer));
-    let word = text::put(out, refused, b" answer=");
-    let after = words::put_answer(out, word, answer);
-    text::put_field(out, after, b" data=", data as u64)
-}
-
-fn number_of(refusal: Refusal) -> u64
-    ensures { λ r. ⌜ r ≡ number-of-refusal refusal ⌝ }
-{
-    match refusal {
-        Refusal::Store => 1,
-        Refusal::State => 2,
-        Refusal::Shape => 3,
-        Refusal::Out => 4,
-        Refusal::Down => 5,
-        Refusal::Run => 6,
-        Refusal::Field => 7,
-        Refusal::Full => 8,
-    }
-}
-
-fn verdict_number(verdict: Verdict) -> u64
-    ensures { λ r. ⌜ r ≡ verdict-number-of verdict ⌝ }
-{
-    match verdict {
-        Verdict::Refused(refusal) => number_of(refusal),
-        Verdict::Admitted => 0,
-    }
-}
-
-fn send_refusal(answer: send::Answer) -> u64
-    ensures { λ r. ⌜ r ≡ send-refusal answer ⌝ }
-{
-    match answer {
-        send::Answer::Refused(refusal) => number_of(refusal),
-        send::Answer::Flits(_) => 0,
-    }
-}
-
-fn flits_of(answer: send::Answer) -> usize
-    ensures { λ r. ⌜ r ≡ flits-written answer ⌝ }
-{
-    match answer {
-        send::Answer::Refused(_) => 0,
-        send::Answer::Flits(flits) => flits.0,
-    }
-}
-
-fn receive_refusal(answer: Answer) -> u64
-    ensures { λ r. ⌜ r ≡ refusal-number answer ⌝ }
-{
-    match answer {
-        Answer::Refused(refusal) => number_of(refusal),
-        Answer::Held => 0,
-        Answer::Delivered(_) => 0,
-        Answer::Duplicate => 0,
-        Answer::Idle => 0,
-        Answer::Replayed => 0,
-        Answer::Ahead => 0,
-        Answer::Skipped => 0,
-        Answer::Damaged => 0,
-        Answer::Discarded => 0,
-        Answer::Down(_) => 0,
-    }
 }

@@ -1,7 +1,7 @@
 -- Where n more flits are acknowledged and the flits up to the last border among them leave the store, the sending side stays sound:
 -- the walk goes on from that border as before, the numbers lie as far after the new oldest flit as they lay after the border, and
 -- the acknowledged number lies inside the unit that begins there. Assumes nothing.
-use mathlib.Core.Bool.{Bool, true, false}
+use mathlib.Core.Bool.{Bool, true, false, cond}
 use mathlib.Core.List.{List}
 use mathlib.Core.Path.{_≡_, refl, sym, ap, _∙_}
 use Prim.Native.Nat.{ℕ, suc, _+_, _-_, _^_, _<_, _≤_}
@@ -12,7 +12,6 @@ use lib.Dec.{ltb}
 use lib.ListN.{length}
 use Rattle.numbers.specs.Numbers.{width, after, difference}
 use Rattle.numbers.proofs.Laws.{after-lt, difference-split, further}
-use Rattle.ends.specs.Choice.{pick}
 use Rattle.ends.specs.Update.{with-acknowledged}
 use Rattle.ends.specs.Ring.{begun, place, walk, walked}
 use Rattle.ends.specs.Refusals.{cursor-at, sent-at, acknowledged-at, store-is, sound}
@@ -20,7 +19,7 @@ use Rattle.ends.specs.declared.state.End.{End}
 use Rattle.ends.specs.declared.walk.Walk.{Walk}
 use Rattle.ends.proofs.Facts.{stored-is, sound-is}
 use Rattle.ends.proofs.Places.{place-under}
-use Rattle.ends.proofs.Tests.{pick-either}
+use Rattle.ends.proofs.Tests.{cond-either}
 use Rattle.ends.proofs.Walks.{fair, next-border, sound-before}
 use Rattle.arrivals.specs.Arrivals.{past-sent}
 use Rattle.acknowledge.specs.Acknowledge.{freed-by, freed, sent-anew, acknowledged}
@@ -116,9 +115,9 @@ module _ (e : End) (store : List ℕ) (n : ℕ) (fit : Fitting e) (its : store-i
           let z : _≡_ {A = ℕ} 0 1 = cc in
           absurd (omega arith)
 
-  inside-oldest : reach - gone ≤ pick (ltb 0 (e .held .0 - gone)) left-over 0
+  inside-oldest : reach - gone ≤ cond (ltb 0 (e .held .0 - gone)) left-over 0
   inside-oldest =
-      pick-either (λ (m : ℕ). reach - gone ≤ m) (ltb 0 (e .held .0 - gone)) left-over 0
+      cond-either (λ (m : ℕ). reach - gone ≤ m) (ltb 0 (e .held .0 - gone)) left-over 0
       (λ t.
       let l = ltb-true 0 (e .held .0 - gone) t in
       omega (arith, inside-unit (omega arith)))
@@ -187,7 +186,7 @@ module _ (e : End) (store : List ℕ) (n : ℕ) (fit : Fitting e) (its : store-i
 
   pub acknowledged-sends : Sends (acknowledged e store n) store
   unfolding acknowledged
-  acknowledged-sends = pick-either (λ (x : End). Sends x store) (ltb (cursor-at e) gone) _ _ passed-by stays-there
+  acknowledged-sends = cond-either (λ (x : End). Sends x store) (ltb (cursor-at e) gone) _ _ passed-by stays-there
 
 -- an acknowledgement leaves what is received as it is, and its numbers fit their type
 pub record Apart (e x : End) : Type 0 where
@@ -206,7 +205,7 @@ acknowledged-apart e store n =
     let x = freed (with-acknowledged (after width (e .acknowledged .0) n) e) store (freed-by e store n) in
     let o = after-lt width (e .oldest .0) (freed-by e store n) in
     let a = after-lt width (e .acknowledged .0) n in
-    pick-either (Apart e) (ltb (cursor-at e) (freed-by e store n)) (sent-anew true x) x
+    cond-either (Apart e) (ltb (cursor-at e) (freed-by e store n)) (sent-anew true x) x
     (λ t.
     record { capacity = refl; owed = refl; gathered = refl; untold = refl; discards = refl; sent = refl; oldest = o; acknowledged = a })
     (λ t.

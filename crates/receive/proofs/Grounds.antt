@@ -11,7 +11,7 @@ use Rattle.flits.specs.declared.Fields.{Fields}
 use Rattle.ends.specs.declared.state.End.{End}
 use Rattle.ends.specs.declared.state.Mode.{Mode}
 use Rattle.ends.specs.declared.state.Mode.the-variants.{Run, Wait, Down}
-use Rattle.ends.proofs.Tests.{and-l, and-r, pick-either}
+use Rattle.ends.proofs.Tests.{and-l, and-r, cond-either}
 use Rattle.arrivals.specs.Arrivals.{holds, closes, run-wrong, stall-wrong, straddles, damaged, skips, newly-covered, past-sent, behind}
 use Rattle.answers.specs.Answers.{half, replay-answer, plain-answer, run-answer, wait-answer, mode-answer}
 use Rattle.answers.specs.declared.Answer.{Answer}
@@ -113,42 +113,42 @@ replay-grounds : (e : End) (f : Fields) → Grounds (replay-answer e f) e f
 unfolding replay-answer
 replay-grounds e f =
     let P : Answer → Type 0 = λ a. Grounds a e f in
-    pick-either P (f .short) _ _ (λ t. record {})
+    cond-either P (f .short) _ _ (λ t. record {})
     (λ t.
-    pick-either P (ltb 8 (f .previous .0)) _ _ (λ u. record {})
+    cond-either P (ltb 8 (f .previous .0)) _ _ (λ u. record {})
     (λ u.
     let a : Announced f = record { previous = ltb-false 8 (f .previous .0) u } in
-    pick-either P (past-sent e (newly-covered e (f .last .0))) _ _ (λ v. record {})
-    (λ v. pick-either P (ltb (behind e (f .start .0)) half) _ _ (λ w. a) (λ w. a))))
+    cond-either P (past-sent e (newly-covered e (f .last .0))) _ _ (λ v. record {})
+    (λ v. cond-either P (ltb (behind e (f .start .0)) half) _ _ (λ w. a) (λ w. a))))
 
 plain-grounds : (e : End) (f : Fields) → f .run .0 ≤ 15 → skips f ≡ false → eqb (f .run .0) replay ≡ false
     → (eqb (f .run .0) idle ≡ true → e .gathered .0 ≡ 0) → Grounds (plain-answer e f) e f
 unfolding plain-answer skips
 plain-grounds e f h s p i =
     let P : Answer → Type 0 = λ a. Grounds a e f in
-    pick-either P (f .short) _ _ (λ t. record {})
+    cond-either P (f .short) _ _ (λ t. record {})
     (λ t.
-    pick-either P (past-sent e (f .acks .0)) _ _ (λ u. record {})
+    cond-either P (past-sent e (f .acks .0)) _ _ (λ u. record {})
     (λ u.
-    pick-either P (eqb (f .run .0) idle) _ _ (λ v. record { none = i v })
+    cond-either P (eqb (f .run .0) idle) _ _ (λ v. record { none = i v })
     (λ v.
     let c : Control f = record { run = control-run (f .run .0) h s p v } in
-    pick-either P (not (eqb (e .position .0) (e .wanted .0))) _ _ (λ w. c)
-    (λ w. pick-either P (ltb 1024 (e .untold .0 + (e .gathered .0 + 1))) _ _ (λ x. record {}) (λ x. c)))))
+    cond-either P (not (eqb (e .position .0) (e .wanted .0))) _ _ (λ w. c)
+    (λ w. cond-either P (ltb 1024 (e .untold .0 + (e .gathered .0 + 1))) _ _ (λ x. record {}) (λ x. c)))))
 
 -- of every answer that is found
 pub grounds : (m : Mode) (e : End) (f : Fields) (b : Bool) → Receives e → f .run .0 ≤ 15 → Grounds (mode-answer m e f b) e f
 unfolding run-answer wait-answer
 grounds Run e f b r h =
     let P : Answer → Type 0 = λ a. Grounds a e f in
-    pick-either P (holds e) _ _ (λ t. owing e t)
+    cond-either P (holds e) _ _ (λ t. owing e t)
     (λ t.
-    pick-either P (damaged e f b) _ _ (λ u. record {})
+    cond-either P (damaged e f b) _ _ (λ u. record {})
     (λ u.
-    pick-either P (skips f) _ _ (λ v. record {})
+    cond-either P (skips f) _ _ (λ v. record {})
     (λ v.
-    pick-either P (eqb (f .run .0) replay) _ _ (λ w. replay-grounds e f) (λ w. plain-grounds e f h v w (idle-alone e f b r t u)))))
+    cond-either P (eqb (f .run .0) replay) _ _ (λ w. replay-grounds e f) (λ w. plain-grounds e f h v w (idle-alone e f b r t u)))))
 grounds Wait e f b r h =
     let P : Answer → Type 0 = λ a. Grounds a e f in
-    pick-either P (b && eqb (f .run .0) replay) _ _ (λ t. replay-grounds e f) (λ t. record {})
+    cond-either P (b && eqb (f .run .0) replay) _ _ (λ t. replay-grounds e f) (λ t. record {})
 grounds Down e f b r h = record {}

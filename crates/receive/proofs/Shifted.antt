@@ -1,6 +1,6 @@
 -- The ring from a later place: the place n after the place b after the first is the place b + n after it, so that the walk from a
 -- border on is the walk over the whole from there; and past the last border there is none. Assumes nothing.
-use mathlib.Core.Bool.{Bool, true, false}
+use mathlib.Core.Bool.{Bool, true, false, cond}
 use mathlib.Core.List.{List}
 use mathlib.Core.Path.{_≡_, refl, sym, ap, ap₂, _∙_}
 use Prim.Native.Nat.{ℕ, zero, suc, _+_, _-_, _<_, _≤_}
@@ -8,7 +8,6 @@ use native.Mathlib.Omega.{arith}
 use native.Mathlib.Nat.{add-suc, add-zero, add-assoc}
 use borrow.Author.Tests.{ltb-true, ltb-false}
 use lib.Dec.{ltb}
-use Rattle.ends.specs.Choice.{pick}
 use Rattle.ends.specs.Ring.{flit-at, place, begun, passed, walk}
 use Rattle.ends.specs.declared.walk.Walk.{Walk}
 use Rattle.ends.proofs.Places.{place-low, place-high}
@@ -43,7 +42,7 @@ place-place places first b n f h = go (ltb (first + b) places) refl (ltb (first 
         ∙ omega (arith, p, place-low places (first + b - places) n (omega arith), place-high places first (b + n) y)
 
 -- one flit more: on a border that is the last one, else the last one is as before
-step : (W : ℕ → Bool) (n m l : ℕ) (b : Bool) → W (suc n) ≡ b → pick b (suc n) l < m → m ≤ suc n → (l < m → m ≤ n → W m ≡ false)
+step : (W : ℕ → Bool) (n m l : ℕ) (b : Bool) → W (suc n) ≡ b → cond b (suc n) l < m → m ≤ suc n → (l < m → m ≤ n → W m ≡ false)
     → W m ≡ false
 step W n m l true t h k f = absurd (omega arith)
 step W n m l false t h k f = go (ltb n m) refl

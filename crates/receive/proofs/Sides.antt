@@ -1,13 +1,12 @@
 -- A sound state as its two sides: what is sent, over the ring, and what is received. Each is a record over the numbers that it is
 -- about, so that a change to the other side leaves it as it is. Assumes nothing.
-use mathlib.Core.Bool.{Bool, true, not, _&&_, _||_}
+use mathlib.Core.Bool.{Bool, true, not, _&&_, _||_, cond}
 use mathlib.Core.List.{List}
 use mathlib.Core.Path.{_≡_}
 use Prim.Native.Nat.{ℕ, _<_, _≤_}
 use borrow.Author.Tests.{lt-ltb, le-leb}
 use lib.Dec.{ltb, leb, eqb}
 use Rattle.numbers.specs.Numbers.{width, difference}
-use Rattle.ends.specs.Choice.{pick}
 use Rattle.ends.specs.Ring.{begun, walk}
 use Rattle.ends.specs.Refusals.{counts-sound, sound}
 use Rattle.ends.specs.declared.state.End.{End}
@@ -22,7 +21,7 @@ pub record Sending (capacity first held kept oldest cursor sent acknowledged : �
   pub cursor-in : difference width cursor oldest ≤ held
   pub cursor-sent : difference width cursor oldest ≤ difference width sent oldest
   pub sent-in : difference width sent oldest ≤ held
-  pub acknowledged-in : difference width acknowledged oldest ≤ pick (ltb 0 held) kept 0
+  pub acknowledged-in : difference width acknowledged oldest ≤ cond (ltb 0 held) kept 0
   pub acknowledged-sent : difference width acknowledged oldest ≤ difference width sent oldest
   pub border : walk capacity first (begun kept) store held .border ≡ true
   pub acceptable : walk capacity first (begun kept) store held .sound ≡ true

@@ -18,7 +18,7 @@ use Rattle.ends.specs.declared.state.Mode.{Mode}
 use Rattle.ends.specs.declared.state.Mode.the-variants.{Run, Wait, Down}
 use Rattle.ends.specs.declared.state.Verdict.{Verdict}
 use Rattle.ends.specs.declared.state.Verdict.the-variants.{Refused, Admitted}
-use Rattle.ends.proofs.Tests.{pick-either}
+use Rattle.ends.proofs.Tests.{cond-either}
 use Rattle.arrivals.specs.Arrivals.{newly-covered, past-sent, checked}
 use Rattle.answers.specs.Answers.{mode-answer}
 use Rattle.answers.specs.declared.Answer.{Answer}
@@ -90,7 +90,7 @@ module _ (e : End) (store : List ℕ) where
   discarded-kept : (x : End) → Kept e x store → Kept e (discarded x) store
   unfolding discarded
   discarded-kept x k =
-      pick-either (λ (y : End). Kept e y store) (eqb (x .discards + 1) 64) _ _
+      cond-either (λ (y : End). Kept e y store) (eqb (x .discards + 1) 64) _ _
       (λ t. counted (with-pending true x) 0 (omega arith) (pending-kept x k))
       (λ t. counted x (x .discards + 1) (below (k .receives .discards-in) (eqb-false (x .discards + 1) 64 t)) k)
     where
@@ -204,7 +204,7 @@ module _ (e : End) (store : List ℕ) (f : Fields) (fit : Fitting e) (its : stor
         untold-in = omega (arith, r .untold-in, a .untold);
         discards-in = omega (arith, r .discards-in, a .discards);
       } in
-      pick-either (λ (y : End). Kept e (finished y) store) (f .nack) (sent-anew true x) x
+      cond-either (λ (y : End). Kept e (finished y) store) (f .nack) (sent-anew true x) x
       (λ t.
       record {
         sends = anew-sends x store (a .oldest) s;

@@ -10,7 +10,7 @@ use lib.Seq.{length-take-le}
 use Rattle.numbers.specs.declared.FlitCount.{FlitCount}
 use Rattle.flits.specs.Bytes.{bytes}
 use Rattle.flits.specs.Fields.{content}
-use Rattle.flits.specs.Flits.{bare-control}
+use Rattle.compose.specs.Flits.{bare-control}
 use Rattle.flits.proofs.Laws.{length-bytes}
 use Rattle.ends.specs.Ring.{flit-at, put-at}
 use Rattle.ends.specs.declared.state.End.{End}

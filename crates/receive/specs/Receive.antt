@@ -1,13 +1,12 @@
 -- Receive takes one arriving flit, step by step of 01, "Receive". Assumes nothing.
-use mathlib.Core.Bool.{not, _&&_}
+use mathlib.Core.Bool.{not, _&&_, cond}
 use mathlib.Core.List.{List}
 use Prim.Native.Nat.{ℕ}
 use lib.Dec.{eqb}
 use lib.ListN.{length}
 use Rattle.crc.specs.Unit.{right}
 use Rattle.flits.specs.Fields.{fields-of}
-use Rattle.flits.specs.Flits.{bare-control}
-use Rattle.ends.specs.Choice.{pick}
+use Rattle.compose.specs.Flits.{bare-control}
 use Rattle.ends.specs.Ring.{put-at}
 use Rattle.ends.specs.Refusals.{store-is, sound, is-down}
 use Rattle.ends.specs.declared.state.End.{End}
@@ -24,10 +23,10 @@ use Rattle.effects.specs.Effects.{end-after}
 -- the refusals of receive, in the table's order; 3 SHAPE: flit length not 64
 unfoldable pub verdict : End → List ℕ → ℕ → ℕ → Verdict
 verdict e store hold flit =
-    pick (not (store-is e (length store) && eqb hold 576)) (Refused refusal.Store)
-    (pick (not (sound e store)) (Refused refusal.State)
-    (pick (not (eqb flit 64)) (Refused refusal.Shape)
-    (pick (is-down (e .mode)) (Refused refusal.Down)
+    cond (not (store-is e (length store) && eqb hold 576)) (Refused refusal.Store)
+    (cond (not (sound e store)) (Refused refusal.State)
+    (cond (not (eqb flit 64)) (Refused refusal.Shape)
+    (cond (is-down (e .mode)) (Refused refusal.Down)
     Admitted)))
 
 -- only a held flit and a delivery write hold: data in its first part, the control flit after it with bits 63:18 zero

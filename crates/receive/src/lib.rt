@@ -1,6 +1,5 @@
 // Receive takes one arriving flit (01, "Receive").
 use answers::Answer;
-use ends::judge;
 use ends::state::End;
 use ends::state::Refusal;
 use ends::state::Verdict;
@@ -81,11 +80,7 @@ fn write_hold(answer: Answer, e: End, hold: &mut [u8], flit: &[u8])
     let data = e.gathered.0;
     match answer {
         Answer::Held => put_at(hold, data, flits::copy::taken(flit)),
-        Answer::Delivered(_) => put_at(
-            hold,
-            data,
-            flits::write::bare_control(flits::copy::taken(flit)),
-        ),
+        Answer::Delivered(_) => put_at(hold, data, compose::bare_control(flits::copy::taken(flit))),
         Answer::Refused(_) => {}
         Answer::Duplicate => {}
         Answer::Idle => {}

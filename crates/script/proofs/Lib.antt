@@ -1,4 +1,2 @@
-pub mod Cuts
-pub mod Figures
 pub mod Lines
 pub mod Bounds

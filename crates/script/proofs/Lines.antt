@@ -1,36 +1,36 @@
 -- What a command carries, and the line that it makes. Assumes nothing.
-use mathlib.Core.Bool.{Bool, true, false, _&&_}
+use mathlib.Core.Bool.{Bool, true, false, _&&_, cond}
 use mathlib.Core.List.{List, [], _∷_}
 use mathlib.Core.Path.{_≡_, refl, ap, ap₂, sym, _∙_}
 use Prim.Native.Nat.{ℕ}
 use lib.ListN.{length}
-use Rattle.ends.specs.Choice.{pick}
 use Rattle.text.specs.Text.{ascii}
-use Rattle.script.specs.declared.Which.{Which}
-use Rattle.script.specs.declared.Which.the-variants as which
-use Rattle.script.specs.declared.Field.{Field}
-use Rattle.script.specs.declared.Key.{Key}
+use Rattle.tokens.specs.Tokens.{tokens, last, same, is-decimal, is-number, value, offset-value, is-bytes, pairs, over}
+use Rattle.tokens.proofs.Cuts.{tokens-some, last-tokens}
+use Rattle.tokens.proofs.Figures.{over-none}
+use Rattle.names.specs.declared.Which.{Which}
+use Rattle.names.specs.declared.Which.the-variants as which
+use Rattle.names.specs.declared.Field.{Field}
+use Rattle.names.specs.declared.Key.{Key}
+use Rattle.names.specs.declared.EndNamed.the-variants as an-end
+use Rattle.names.specs.declared.FieldNamed.{FieldNamed}
+use Rattle.names.specs.declared.FieldNamed.the-variants as a-field
+use Rattle.names.specs.declared.KeyNamed.{KeyNamed}
+use Rattle.names.specs.declared.KeyNamed.the-variants as a-key
+use Rattle.names.specs.Names.{end-of, field-of, most, key-of}
 use Rattle.script.specs.declared.Command.{Command}
 use Rattle.script.specs.declared.Command.the-variants as command
-use Rattle.script.specs.declared.names.EndNamed.the-variants as an-end
-use Rattle.script.specs.declared.names.FieldNamed.{FieldNamed}
-use Rattle.script.specs.declared.names.FieldNamed.the-variants as a-field
-use Rattle.script.specs.declared.names.KeyNamed.{KeyNamed}
-use Rattle.script.specs.declared.names.KeyNamed.the-variants as a-key
-use Rattle.script.specs.Script.{tokens, last, same, is-decimal, is-number, value, offset-value, is-bytes, pairs, end-of, most}
 use Rattle.script.specs.Script.{start, accept, send, receive, poke, fill, lend, count, command-of}
-use Rattle.script.specs.Script.{for-end, for-named, line-from, carried, over}
-use Rattle.script.proofs.Cuts.{tokens-some, last-tokens}
-use Rattle.script.proofs.Figures.{over-none}
+use Rattle.script.specs.Script.{for-end, for-named, line-from, carried}
 
 -- a command that carries nothing, or is bad
-none : (b : Bool) (c : Command) (hex : List ℕ) → carried c hex ≡ [] → carried (pick b c command.Bad) hex ≡ []
+none : (b : Bool) (c : Command) (hex : List ℕ) → carried c hex ≡ [] → carried (cond b c command.Bad) hex ≡ []
 unfolding carried
 none true c hex h = h
 none false c hex h = refl
 
 -- a command that carries its HEX, or is bad
-some : (b : Bool) (c : Command) (hex : List ℕ) → carried c hex ≡ pairs hex → carried (pick b c command.Bad) hex ≡ pick b (pairs hex) []
+some : (b : Bool) (c : Command) (hex : List ℕ) → carried c hex ≡ pairs hex → carried (cond b c command.Bad) hex ≡ cond b (pairs hex) []
 unfolding carried
 some true c hex h = h
 some false c hex h = refl
@@ -39,7 +39,7 @@ pub start-none : (len hex : List ℕ) → carried (start len) hex ≡ []
 unfolding start carried
 start-none len hex = none (is-number 70000 len) (command.Start (value len)) hex refl
 
-pub accept-some : (hex : List ℕ) → carried (accept hex) hex ≡ pick (is-bytes hex) (pairs hex) []
+pub accept-some : (hex : List ℕ) → carried (accept hex) hex ≡ cond (is-bytes hex) (pairs hex) []
 unfolding accept carried
 accept-some hex = some (is-bytes hex) (command.Accept (length (pairs hex))) hex refl
 
@@ -49,7 +49,7 @@ send-none len errors info hex =
     none (is-number 2000 len && is-number 255 errors && is-number 18446744073709551615 info)
     (command.Send (value len) (value errors) (value info)) hex refl
 
-pub receive-some : (hex : List ℕ) → carried (receive hex) hex ≡ pick (is-bytes hex) (pairs hex) []
+pub receive-some : (hex : List ℕ) → carried (receive hex) hex ≡ cond (is-bytes hex) (pairs hex) []
 unfolding receive carried
 receive-some hex = some (is-bytes hex) (command.Receive (length (pairs hex))) hex refl
 
@@ -63,7 +63,7 @@ unfolding fill carried
 fill-none offset hex h = simp h
 
 pub fill-some : (offset hex : List ℕ) → is-decimal offset ≡ true
-    → carried (fill offset hex) hex ≡ pick (is-bytes hex) (pairs hex) []
+    → carried (fill offset hex) hex ≡ cond (is-bytes hex) (pairs hex) []
 unfolding fill carried
 fill-some offset hex h = rw h (some (is-bytes hex) (command.Fill (offset-value offset) (length (pairs hex))) hex refl)
 
@@ -130,7 +130,7 @@ unfolding fill
 fill-bytes offset hex h k = simp (h, k)
 
 pub lend-told : (store hold : List ℕ) (x y : ℕ) (p q : Bool) → p ≡ is-number 70000 store → q ≡ is-number 2000 hold
-    → x ≡ pick (is-number 70000 store) (value store) 0 → y ≡ pick (is-number 2000 hold) (value hold) 0 → (p && q) ≡ true
+    → x ≡ cond (is-number 70000 store) (value store) 0 → y ≡ cond (is-number 2000 hold) (value hold) 0 → (p && q) ≡ true
     → command.Lend x y ≡ lend store hold
 unfolding lend
 lend-told store hold x y true true a b e f h = simp (sym a, sym b, e, f)
@@ -144,8 +144,8 @@ lend-bad store hold p q a b h =
     let k : (is-number 70000 store && is-number 2000 hold) ≡ false = ap₂ _&&_ (sym a) (sym b) ∙ h in simp k
 
 pub send-told : (len errors info : List ℕ) (x y z : ℕ) (p q r : Bool) → p ≡ is-number 2000 len → q ≡ is-number 255 errors
-    → r ≡ is-number 18446744073709551615 info → x ≡ pick (is-number 2000 len) (value len) 0
-    → y ≡ pick (is-number 255 errors) (value errors) 0 → z ≡ pick (is-number 18446744073709551615 info) (value info) 0
+    → r ≡ is-number 18446744073709551615 info → x ≡ cond (is-number 2000 len) (value len) 0
+    → y ≡ cond (is-number 255 errors) (value errors) 0 → z ≡ cond (is-number 18446744073709551615 info) (value info) 0
     → (p && q && r) ≡ true → command.Send x y z ≡ send len errors info
 unfolding send
 send-told len errors info x y z true true true a b c e f g h = simp (sym a, sym b, sym c, e, f, g)
@@ -160,6 +160,59 @@ send-bad len errors info p q r a b c h =
     let k : (is-number 2000 len && is-number 255 errors && is-number 18446744073709551615 info) ≡ false =
     ap₂ _&&_ (ap₂ _&&_ (sym a) (sym b)) (sym c) ∙ h
     in simp k
+
+-- ---- the words of one argument and of two
+
+module _ (op a : List ℕ) where
+  pub one-start : same op (ascii "start") ≡ true → command-of op (a ∷ []) ≡ start a
+  unfolding command-of
+  one-start h = simp h
+
+  pub one-accept : same op (ascii "start") ≡ false → same op (ascii "accept") ≡ true → command-of op (a ∷ []) ≡ accept a
+  unfolding command-of
+  one-accept h k = simp (h, k)
+
+  pub one-receive : same op (ascii "start") ≡ false → same op (ascii "accept") ≡ false → same op (ascii "receive") ≡ true
+      → command-of op (a ∷ []) ≡ receive a
+  unfolding command-of
+  one-receive h k l = simp (h, k, l)
+
+  pub one-bad : same op (ascii "start") ≡ false → same op (ascii "accept") ≡ false → same op (ascii "receive") ≡ false
+      → command-of op (a ∷ []) ≡ command.Bad
+  unfolding command-of
+  one-bad h k l = simp (h, k, l)
+
+module _ (op a b : List ℕ) where
+  pub two-poke : same op (ascii "poke") ≡ true → command-of op (a ∷ b ∷ []) ≡ poke (field-of a) b
+  unfolding command-of
+  two-poke h = simp h
+
+  pub two-fill : same op (ascii "poke") ≡ false → same op (ascii "fill") ≡ true → command-of op (a ∷ b ∷ []) ≡ fill a b
+  unfolding command-of
+  two-fill h k = simp (h, k)
+
+  pub two-lend : same op (ascii "poke") ≡ false → same op (ascii "fill") ≡ false → same op (ascii "lend") ≡ true
+      → command-of op (a ∷ b ∷ []) ≡ lend a b
+  unfolding command-of
+  two-lend h k l = simp (h, k, l)
+
+  pub two-count : same op (ascii "poke") ≡ false → same op (ascii "fill") ≡ false → same op (ascii "lend") ≡ false
+      → same op (ascii "count") ≡ true → command-of op (a ∷ b ∷ []) ≡ count (key-of a) b
+  unfolding command-of
+  two-count h k l m = simp (h, k, l, m)
+
+  pub two-bad : same op (ascii "poke") ≡ false → same op (ascii "fill") ≡ false → same op (ascii "lend") ≡ false
+      → same op (ascii "count") ≡ false → command-of op (a ∷ b ∷ []) ≡ command.Bad
+  unfolding command-of
+  two-bad h k l m = simp (h, k, l, m)
+
+-- what another command carries, where it is the same one
+module _ (c d : Command) (hex buffer : List ℕ) where
+  pub carries : (after : List ℕ) → c ≡ d → after ≡ over (carried d hex) buffer → after ≡ over (carried c hex) buffer
+  carries after e h = h ∙ sym (ap (λ (x : Command). over (carried x hex) buffer) e)
+
+  pub carries-none : c ≡ d → carried d hex ≡ [] → buffer ≡ over (carried c hex) buffer
+  carries-none e h = carries buffer e (sym (ap (λ (l : List ℕ). over l buffer) h ∙ over-none buffer))
 
 -- three arguments carry nothing, and there are no more
 more-none : (op a b hex t : List ℕ) (ts : List (List ℕ)) → carried (command-of op (a ∷ b ∷ t ∷ ts)) hex ≡ []
@@ -195,7 +248,7 @@ unfolding line-from for-named
 line-unknown op e ts h = simp h
 
 -- the first token names no end, whether it is the last or not
-pub line-nowhere : (op s e : List ℕ) (ts : List (List ℕ)) (b : Bool) → tokens s ≡ pick b (e ∷ ts) (s ∷ []) → (b ≡ false → e ≡ s)
+pub line-nowhere : (op s e : List ℕ) (ts : List (List ℕ)) (b : Bool) → tokens s ≡ cond b (e ∷ ts) (s ∷ []) → (b ≡ false → e ≡ s)
     → end-of e ≡ an-end.Unknown → line-from (op ∷ tokens s) ≡ for-end which.A command.Bad
 line-nowhere op s e ts true h k u = rw h (line-unknown op e ts u)
 line-nowhere op s e ts false h k u = rw h (line-unknown op s [] (ap end-of (sym (k refl)) ∙ u))

@@ -1,15 +1,15 @@
 // The commands, each with its arguments after the end.
 use crate::Command;
-use crate::digits;
-use crate::names;
-use crate::names::FieldNamed;
-use crate::names::KeyNamed;
-use crate::tokens;
+use names::FieldNamed;
+use names::KeyNamed;
+use tokens::digits;
 ghost use mathlib.Core.List.{[], _∷_};
 ghost use mathlib.Core.Path.{_≡_};
 ghost use Prim.Native.Nat.{_≤_};
 ghost use lib.ListN.{length};
-ghost use Rattle.script.specs.Script.{tokens as tokens-of, last, field-of, key-of, command-of, carried, over};
+ghost use Rattle.tokens.specs.Tokens.{tokens as tokens-of, last, over};
+ghost use Rattle.names.specs.Names.{field-of, key-of};
+ghost use Rattle.script.specs.Script.{command-of, carried};
 ghost use Rattle.script.specs.Script.{start as start-of, accept as accept-of, send as send-of, receive as receive-of};
 ghost use Rattle.script.specs.Script.{poke as poke-of, fill as fill-of, lend as lend-of, count as count-of};
 

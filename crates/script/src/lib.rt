@@ -1,54 +1,17 @@
 // Script lines: text that drives two ends by hand. One line, without its line feed, is read into a command; a line that is no command
 // is bad.
 mod commands;
-mod digits;
-mod names;
-mod tokens;
 
 use names::EndNamed;
+use names::Field;
+use names::Key;
+use names::Which;
 ghost use mathlib.Core.List.{_∷_};
 ghost use mathlib.Core.Path.{_≡_};
 ghost use Prim.Native.Nat.{_≤_};
 ghost use lib.ListN.{length};
-ghost use Rattle.script.specs.Script.{tokens, last, for-end, line-from, line-of, carried, bytes-of, over};
-
-// The end that a command is for.
-pub enum Which {
-    A,
-    B,
-}
-
-// The fields of the state that poke sets, by the names of the output line.
-pub enum Field {
-    Capacity,
-    First,
-    Held,
-    Kept,
-    Oldest,
-    Cursor,
-    Sent,
-    Acked,
-    Wanted,
-    Position,
-    Owed,
-    Stalled,
-    Data,
-    Untold,
-    Mode,
-    Cause,
-    Discards,
-    Pending,
-    Info(usize),
-}
-
-// The counts of the ticket that count sets.
-pub enum Key {
-    Accepted,
-    Delivered,
-    Damaged,
-    Duplicate,
-    Downs,
-}
+ghost use Rattle.tokens.specs.Tokens.{tokens, last, over};
+ghost use Rattle.script.specs.Script.{for-end, line-from, line-of, carried, bytes-of};
 
 // Accept, Receive and Fill hold the number of bytes of their HEX, which stand in the buffer lent for them.
 pub enum Command {

@@ -8,7 +8,7 @@ use native.Mathlib.Omega.{arith}
 use borrow.Author.Tests.{ltb-true, ltb-false}
 use lib.Dec.{ltb}
 use lib.ListN.{length, length-append}
-use Rattle.flits.specs.Flits.{idle-flit}
+use Rattle.compose.specs.Flits.{idle-flit}
 use Rattle.ends.specs.Refusals.{cursor-at, store-is, sound, previous-run}
 use Rattle.ends.specs.declared.state.End.{End}
 use Rattle.units.specs.Units.{unit-sent}

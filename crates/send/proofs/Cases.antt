@@ -1,5 +1,5 @@
 -- The verdict of send, by the tests that lead to it. Assumes nothing.
-use mathlib.Core.Bool.{Bool, true, false, not}
+use mathlib.Core.Bool.{Bool, true, false, not, cond}
 use mathlib.Core.List.{List}
 use mathlib.Core.Path.{_≡_, refl, ap, _∙_}
 use Prim.Native.Nat.{ℕ, _<_, _≤_}
@@ -7,14 +7,13 @@ use native.Mathlib.Omega.{arith}
 use borrow.Author.Tests.{not-false, ltb-false, lt-ltb, le-ltb}
 use lib.Dec.{ltb}
 use lib.ListN.{length}
-use Rattle.ends.specs.Choice.{pick}
 use Rattle.ends.specs.Refusals.{store-is, sound, is-down}
 use Rattle.ends.specs.declared.state.End.{End}
 use Rattle.ends.specs.declared.state.Refusal.{Refusal}
 use Rattle.ends.specs.declared.state.Refusal.the-variants as refusal
 use Rattle.ends.specs.declared.state.Verdict.{Verdict}
 use Rattle.ends.specs.declared.state.Verdict.the-variants.{Refused, Admitted}
-use Rattle.ends.proofs.Tests.{pick-true, pick-false}
+use Rattle.ends.proofs.Tests.{cond-true, cond-false}
 use Rattle.send.specs.Send.{verdict}
 
 pub not-both : {A : Type 0} (v : Verdict) (r : Refusal) → v ≡ Refused r → v ≡ Admitted → A
@@ -22,42 +21,42 @@ not-both v r h k = let z : _≡_ {A = ℕ} 0 1 = cc in absurd (omega arith)
 
 -- the tests from the second, the third and the last on
 abbrev from-down : End → Verdict
-from-down e = pick (is-down (e .mode)) (Refused refusal.Down) Admitted
+from-down e = cond (is-down (e .mode)) (Refused refusal.Down) Admitted
 
 abbrev from-out : End → ℕ → Verdict
-from-out e n = pick (ltb n 640) (Refused refusal.Out) (from-down e)
+from-out e n = cond (ltb n 640) (Refused refusal.Out) (from-down e)
 
 abbrev from-state : End → List ℕ → ℕ → Verdict
-from-state e store n = pick (not (sound e store)) (Refused refusal.State) (from-out e n)
+from-state e store n = cond (not (sound e store)) (Refused refusal.State) (from-out e n)
 
 module _ (e : End) (store : List ℕ) (n : ℕ) where
   pub verdict-store : store-is e (length store) ≡ false → verdict e store n ≡ Refused refusal.Store
   unfolding verdict
-  verdict-store h = pick-true (not (store-is e (length store))) (Refused refusal.Store) (from-state e store n) (ap not h)
+  verdict-store h = cond-true (not (store-is e (length store))) (Refused refusal.Store) (from-state e store n) (ap not h)
 
   past-store : store-is e (length store) ≡ true → verdict e store n ≡ from-state e store n
   unfolding verdict
-  past-store h = pick-false (not (store-is e (length store))) (Refused refusal.Store) (from-state e store n) (ap not h)
+  past-store h = cond-false (not (store-is e (length store))) (Refused refusal.Store) (from-state e store n) (ap not h)
 
   pub verdict-state : store-is e (length store) ≡ true → sound e store ≡ false → verdict e store n ≡ Refused refusal.State
-  verdict-state h k = past-store h ∙ pick-true (not (sound e store)) (Refused refusal.State) (from-out e n) (ap not k)
+  verdict-state h k = past-store h ∙ cond-true (not (sound e store)) (Refused refusal.State) (from-out e n) (ap not k)
 
   past-state : store-is e (length store) ≡ true → sound e store ≡ true → verdict e store n ≡ from-out e n
-  past-state h k = past-store h ∙ pick-false (not (sound e store)) (Refused refusal.State) (from-out e n) (ap not k)
+  past-state h k = past-store h ∙ cond-false (not (sound e store)) (Refused refusal.State) (from-out e n) (ap not k)
 
   pub verdict-out : store-is e (length store) ≡ true → sound e store ≡ true → n < 640 → verdict e store n ≡ Refused refusal.Out
-  verdict-out h k l = past-state h k ∙ pick-true (ltb n 640) (Refused refusal.Out) (from-down e) (lt-ltb n 640 l)
+  verdict-out h k l = past-state h k ∙ cond-true (ltb n 640) (Refused refusal.Out) (from-down e) (lt-ltb n 640 l)
 
   past-out : store-is e (length store) ≡ true → sound e store ≡ true → 640 ≤ n → verdict e store n ≡ from-down e
-  past-out h k l = past-state h k ∙ pick-false (ltb n 640) (Refused refusal.Out) (from-down e) (le-ltb n 640 l)
+  past-out h k l = past-state h k ∙ cond-false (ltb n 640) (Refused refusal.Out) (from-down e) (le-ltb n 640 l)
 
   pub verdict-down : store-is e (length store) ≡ true → sound e store ≡ true → 640 ≤ n → is-down (e .mode) ≡ true
       → verdict e store n ≡ Refused refusal.Down
-  verdict-down h k l d = past-out h k l ∙ pick-true (is-down (e .mode)) (Refused refusal.Down) Admitted d
+  verdict-down h k l d = past-out h k l ∙ cond-true (is-down (e .mode)) (Refused refusal.Down) Admitted d
 
   pub verdict-admitted : store-is e (length store) ≡ true → sound e store ≡ true → 640 ≤ n → is-down (e .mode) ≡ false
       → verdict e store n ≡ Admitted
-  verdict-admitted h k l d = past-out h k l ∙ pick-false (is-down (e .mode)) (Refused refusal.Down) Admitted d
+  verdict-admitted h k l d = past-out h k l ∙ cond-false (is-down (e .mode)) (Refused refusal.Down) Admitted d
 
 -- what an admitted call says
 pub record Admits (e : End) (store : List ℕ) (n : ℕ) : Type 0 where
@@ -66,7 +65,7 @@ pub record Admits (e : End) (store : List ℕ) (n : ℕ) : Type 0 where
   pub room : 640 ≤ n
   pub up : is-down (e .mode) ≡ false
 
-past : (b : Bool) (r : Refusal) (v : Verdict) → pick b (Refused r) v ≡ Admitted → (b ≡ false) × (v ≡ Admitted)
+past : (b : Bool) (r : Refusal) (v : Verdict) → cond b (Refused r) v ≡ Admitted → (b ≡ false) × (v ≡ Admitted)
 past true r v h = not-both (Refused r) r refl h
 past false r v h = (refl, h)
 

@@ -9,8 +9,8 @@ use Rattle.crc.specs.Unit.{right}
 use Rattle.crc.specs.Seal.{sealed}
 use Rattle.crc.proofs.Sealing.{sealed-right}
 use Rattle.flits.specs.Bytes.{bytes}
-use Rattle.flits.specs.Flits.{control-told, idle-flit, replay-flit}
-use Rattle.flits.specs.declared.write.Replay.{Replay}
+use Rattle.compose.specs.Flits.{control-told, idle-flit, replay-flit}
+use Rattle.compose.specs.declared.Replay.{Replay}
 use Rattle.flits.proofs.Laws.{length-bytes}
 use Rattle.ends.specs.Refusals.{cursor-at}
 use Rattle.ends.specs.declared.state.End.{End}

@@ -1,6 +1,6 @@
 -- An end stays sound with its store, whatever send answers. Past a unit the cursor stands on the next border, and sent is the further
 -- of the two. Assumes nothing.
-use mathlib.Core.Bool.{true, false}
+use mathlib.Core.Bool.{true, false, cond}
 use mathlib.Core.List.{List}
 use mathlib.Core.Path.{_≡_, refl, ap, _∙_}
 use Prim.Native.Nat.{ℕ, suc, _+_, _<_, _≤_}
@@ -10,7 +10,6 @@ use lib.Dec.{ltb}
 use lib.ListN.{length}
 use Rattle.numbers.specs.Numbers.{width, after, difference}
 use Rattle.numbers.proofs.Laws.{further}
-use Rattle.ends.specs.Choice.{pick}
 use Rattle.ends.specs.Update.{with-untold, with-pending}
 use Rattle.ends.specs.Ring.{walked}
 use Rattle.ends.specs.Refusals.{cursor-at, sent-at, store-is, counts-sound, sound, previous-run}
@@ -18,7 +17,7 @@ use Rattle.ends.specs.declared.state.End.{End}
 use Rattle.ends.specs.declared.state.Verdict.{Verdict}
 use Rattle.ends.specs.declared.state.Verdict.the-variants.{Refused, Admitted}
 use Rattle.ends.specs.declared.walk.Walk.{Walk}
-use Rattle.ends.proofs.Tests.{pick-either}
+use Rattle.ends.proofs.Tests.{cond-either}
 use Rattle.ends.proofs.Facts.{stored-is, sound-is}
 use Rattle.ends.proofs.Holds.{sound-holds, counts-of, numbers-hold, units-hold, untold-sound, pending-sound}
 use Rattle.ends.proofs.Walks.{next-border}
@@ -30,12 +29,12 @@ use Rattle.burst.proofs.Ready.{unit-whole}
 -- ---- what holds in each case holds of the end after it
 
 pub moved-either : (P : End → Type 0) (e : End) (run : ℕ) → P (with-untold 0 (with-pending false e)) → P (with-untold (fallen (e .untold .0)) e)
-    → (cursor-at e < e .held .0 → P (with-untold (pick (ltb 0 run) (fallen (fallen (e .untold .0))) (fallen (e .untold .0))) (past-unit e run)))
+    → (cursor-at e < e .held .0 → P (with-untold (cond (ltb 0 run) (fallen (fallen (e .untold .0))) (fallen (e .untold .0))) (past-unit e run)))
     → P (moved e run)
 unfolding moved
 moved-either P e run f g h =
-    pick-either P (e .pending) _ _ (λ t. f)
-    (λ t. pick-either P (ltb (cursor-at e) (e .held .0)) _ _ (λ v. h (ltb-true (cursor-at e) (e .held .0) v)) (λ v. g))
+    cond-either P (e .pending) _ _ (λ t. f)
+    (λ t. cond-either P (ltb (cursor-at e) (e .held .0)) _ _ (λ v. h (ltb-true (cursor-at e) (e .held .0) v)) (λ v. g))
 
 pub send-either : (P : End → Type 0) (e : End) (store : List ℕ) (n : ℕ) → P e → (verdict e store n ≡ Admitted → P (moved e (previous-run e store)))
     → P (send e store n .end)
@@ -70,7 +69,7 @@ module _ (e : End) (store : List ℕ) (ok : sound e store ≡ true) (most : e .c
   sent-moved : Further e (cursor-at e + (run + 1)) (past-unit e run .sent .0)
   sent-moved =
       let s = sound-is e store ok in
-      pick-either (Further e (cursor-at e + (run + 1))) (ltb (sent-at e) (cursor-at e + (run + 1))) (after width (e .cursor .0) (run + 1)) (e .sent .0)
+      cond-either (Further e (cursor-at e + (run + 1))) (ltb (sent-at e) (cursor-at e + (run + 1))) (after width (e .cursor .0) (run + 1)) (e .sent .0)
       (λ t.
       let l = ltb-true (sent-at e) (cursor-at e + (run + 1)) t in
       record { to-it = omega (arith, cursor-moved); grows = omega (arith, cursor-moved); held = omega (arith, cursor-moved, inside) })
@@ -104,8 +103,8 @@ stays-sound e store n ok =
     moved-either (λ (x : End). sound x store ≡ true) e run (untold-sound (with-pending false e) store 0 (omega arith) (pending-sound e store false ok))
     (untold-sound e store (fallen (e .untold .0)) (omega arith) ok)
     (λ w.
-    untold-sound (past-unit e run) store (pick (ltb 0 run) (fallen (fallen (e .untold .0))) (fallen (e .untold .0)))
-    (pick-either (λ (x : ℕ). x ≤ 1024) (ltb 0 run) (fallen (fallen (e .untold .0))) (fallen (e .untold .0)) (λ t. omega arith) (λ t. omega arith))
+    untold-sound (past-unit e run) store (cond (ltb 0 run) (fallen (fallen (e .untold .0))) (fallen (e .untold .0)))
+    (cond-either (λ (x : ℕ). x ≤ 1024) (ltb 0 run) (fallen (fallen (e .untold .0))) (fallen (e .untold .0)) (λ t. omega arith) (λ t. omega arith))
     (past-sound e store ok (stored-is e (length store) (admitted e store n a .its-store) .most) w)))
 
 -- and the store stays its own

@@ -1,10 +1,9 @@
 -- Send writes what goes on the wire next, step by step of 01, "Send". Assumes nothing.
-use mathlib.Core.Bool.{not}
+use mathlib.Core.Bool.{not, cond}
 use mathlib.Core.List.{List, _++_}
 use Prim.Native.Nat.{ℕ}
 use lib.Dec.{ltb}
 use lib.ListN.{length, drop}
-use Rattle.ends.specs.Choice.{pick}
 use Rattle.ends.specs.State.{number-of}
 use Rattle.ends.specs.Refusals.{store-is, sound, previous-run, is-down}
 use Rattle.ends.specs.declared.state.End.{End}
@@ -19,10 +18,10 @@ use Rattle.burst.specs.Burst.{burst, burst-flits, moved}
 -- the refusals of send, in the table's order; 4 OUT: output under 640
 unfoldable pub verdict : End → List ℕ → ℕ → Verdict
 verdict e store output =
-    pick (not (store-is e (length store))) (Refused refusal.Store)
-    (pick (not (sound e store)) (Refused refusal.State)
-    (pick (ltb output 640) (Refused refusal.Out)
-    (pick (is-down (e .mode)) (Refused refusal.Down)
+    cond (not (store-is e (length store))) (Refused refusal.Store)
+    (cond (not (sound e store)) (Refused refusal.State)
+    (cond (ltb output 640) (Refused refusal.Out)
+    (cond (is-down (e .mode)) (Refused refusal.Down)
     Admitted)))
 
 -- what send answers, with the state after it; what the output then holds

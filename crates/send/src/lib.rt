@@ -1,5 +1,4 @@
 // Send writes what goes on the wire next (01, "Send").
-use ends::judge;
 use ends::state::End;
 use ends::state::Refusal;
 use ends::state::Verdict;

@@ -1,39 +1,14 @@
--- The texts of the script format: bytes in hexadecimal, a checksum, the state of an end and the ticket on one line. Assumes nothing.
-use mathlib.Core.Bool.{Bool}
-use mathlib.Core.List.{List, [], _∷_, _++_}
-use Prim.Native.Nat.{ℕ, zero, suc, _+_, _-_, _*_, _/_, _%_}
+-- The state of an end and the ticket on one line. Assumes nothing.
+use mathlib.Core.Bool.{Bool, cond}
+use mathlib.Core.List.{List, [], _++_}
+use Prim.Native.Nat.{ℕ, zero, suc}
 use Prim.Native.String.{String}
-use lib.Dec.{ltb}
 use lib.ListN.{getD}
-use Rattle.text.specs.Text.{ascii, digit, decimal}
+use Rattle.text.specs.Text.{ascii, decimal}
+use Rattle.dump.specs.Dump.{adler}
 use Rattle.words.specs.Words.{mode-word}
-use Rattle.ends.specs.Choice.{pick}
 use Rattle.ends.specs.declared.state.End.{End}
 use Rattle.ticket.specs.declared.Ticket.{Ticket}
-
--- ---- bytes
-
--- Adler-32: 1 and the bytes summed, and these sums summed, each modulo 65521, the second above the first
-unfoldable pub sums : ℕ → ℕ → List ℕ → ℕ
-sums a b [] = b % 65521 * 65536 + a % 65521
-sums a b (byte ∷ bytes) = sums (a + byte) (b + (a + byte)) bytes
-
-unfoldable pub adler : List ℕ → ℕ
-adler bytes = sums 1 0 bytes
-
--- the digits, then the letters from a on
-unfoldable pub hex-digit : ℕ → ℕ
-hex-digit n = pick (ltb n 10) (digit n) (97 + (n - 10))
-
--- two digits a byte, byte 0 first
-unfoldable pub hex-digits : List ℕ → List ℕ
-hex-digits [] = []
-hex-digits (byte ∷ bytes) = hex-digit (byte / 16) ∷ hex-digit (byte % 16) ∷ hex-digits bytes
-
--- a dash for none
-unfoldable pub hex : List ℕ → List ℕ
-hex [] = ascii "-"
-hex (byte ∷ bytes) = hex-digits (byte ∷ bytes)
 
 -- ---- the state of an end
 
@@ -42,7 +17,7 @@ field key n = ascii key ++ decimal n
 
 -- 1 where it is set
 abbrev pub mark : Bool → ℕ
-mark set = pick set 1 0
+mark set = cond set 1 0
 
 unfoldable pub ring-part : End → List ℕ
 ring-part e =
@@ -86,8 +61,8 @@ state-text e store hold =
 
 unfoldable pub ticket-text : Ticket → List ℕ
 ticket-text t =
-    ascii "ticket refuse=0" ++ field " accepted=" (t .accepted) ++ field " delivered=" (t .delivered)
-    ++ field " damaged=" (t .damaged)
+    ascii "ticket refuse=0"
+    ++ (field " accepted=" (t .accepted) ++ field " delivered=" (t .delivered) ++ field " damaged=" (t .damaged)
     ++ field " duplicate=" (t .duplicate)
-    ++ field " downs=" (t .downs)
+    ++ field " downs=" (t .downs))
     ++ ascii "\n"

@@ -1,73 +1,15 @@
-// The texts of the script format: bytes in hexadecimal, a checksum, the state of an end and the ticket on one line. Each function
-// writes into a lent buffer from a place on and answers the place after what it wrote.
+// The state of an end and the ticket on one line. Each function writes into a lent buffer from a place on and answers the place
+// after what it wrote.
 use ends::state::End;
+use ends::state::Mode;
 use ticket::Ticket;
 ghost use mathlib.Core.Path.{_≡_};
 ghost use mathlib.Core.List.{_++_};
-ghost use Prim.Native.Nat.{_+_, _*_, _^_, _<_, _≤_};
+ghost use Prim.Native.Nat.{_+_, _≤_};
 ghost use lib.ListN.{length};
-ghost use Rattle.text.specs.Text.{decimal, Puts};
-ghost use Rattle.show.specs.Show.{adler as adler-of, hex-digit as hex-digit-of, hex-digits, hex, mark as mark-of, ring-part, sending-part, receiving-part, mode-part, information-part, sums-part, state-text, ticket-text};
-
-// The modulus of Adler-32, and where its sums are reduced: a step more still fits.
-const MODULUS: u64 = 65521;
-
-const LARGE: u64 = 281474976710656;
-
-// Adler-32 of the bytes.
-pub fn adler(bytes: &[u8]) -> u64
-    ensures { λ r. ⌜ (r ≡ adler-of (now (bytes .entry))) × (r < 2 ^ 32) ⌝ }
-{
-    let mut a: u64 = 1;
-    let mut b: u64 = 0;
-    let mut i: usize = 0;
-    while i < bytes.len() {
-        a += bytes[i] as u64;
-        b += a;
-        if LARGE <= b {
-            a = a % MODULUS;
-            b = b % MODULUS;
-        }
-        i += 1;
-    }
-    b % MODULUS * 65536 + a % MODULUS
-}
-
-// Writes bytes in hexadecimal, or a dash for none.
-pub fn put_hex(out: &mut [u8], at: usize, bytes: &[u8]) -> usize
-    requires { ⌜ at + (2 * length (now bytes) + 1) ≤ length (now out) ⌝ }
-    ensures { λ r. ⌜ Puts (now (out .entry)) at (hex (now (bytes .entry))) r (now (out .exit)) ⌝ }
-{
-    if bytes.len() == 0 {
-        text::put(out, at, b"-")
-    } else {
-        put_digits(out, at, bytes)
-    }
-}
-
-// Two digits a byte.
-fn put_digits(out: &mut [u8], at: usize, bytes: &[u8]) -> usize
-    requires { ⌜ at + 2 * length (now bytes) ≤ length (now out) ⌝ }
-    ensures { λ r. ⌜ Puts (now (out .entry)) at (hex-digits (now (bytes .entry))) r (now (out .exit)) ⌝ }
-{
-    let mut next = at;
-    let mut i: usize = 0;
-    while i < bytes.len() {
-        let byte = bytes[i];
-        out[next] = hex_digit(byte / 16);
-        out[next + 1] = hex_digit(byte % 16);
-        next += 2;
-        i += 1;
-    }
-    next
-}
-
-fn hex_digit(n: u8) -> u8
-    requires { ⌜ n < 16 ⌝ }
-    ensures { λ r. ⌜ r ≡ hex-digit-of n ⌝ }
-{
-    if n < 10 { b'0' + n } else { b'a' + (n - 10) }
-}
+ghost use Rattle.text.specs.Text.{ascii, decimal, Puts};
+ghost use Rattle.words.specs.Words.{mode-word};
+ghost use Rattle.show.specs.Show.{field, mark as mark-of, information-part, sums-part, state-text, ticket-text};
 
 // Writes the state of an end, a space before each key, and a line feed.
 pub fn put_state(out: &mut [u8], at: usize, e: End, store: &[u8], hold: &[u8]) -> usize
@@ -75,56 +17,99 @@ pub fn put_state(out: &mut [u8], at: usize, e: End, store: &[u8], hold: &[u8]) -
     ensures { λ r. ⌜ Puts (now (out .entry)) at (state-text e (now (store .entry)) (now (hold .entry))) r (now (out .exit)) ⌝ }
 {
     let information = e.information;
-    let sending = put_ring(out, at, e);
-    let receiving = put_sending(out, sending, e);
-    let mode = put_receiving(out, receiving, e);
-    let newest = put_mode_part(out, mode, e);
+    let word = e.mode;
+    let sending = put_ring(out, at, e.capacity.0, e.first, e.held.0, e.kept.0);
+    let receiving = put_sending(
+        out,
+        sending,
+        e.oldest.0,
+        e.cursor.0,
+        e.sent.0,
+        e.acknowledged.0,
+    );
+    let mode = put_receiving(
+        out,
+        receiving,
+        e.wanted.0,
+        e.position.0,
+        e.owed.0,
+        e.stalled,
+        e.gathered.0,
+        e.untold.0,
+    );
+    let newest = put_mode_part(out, mode, word, e.cause, e.discards, e.pending);
     let sums = put_information(out, newest, &information);
     put_sums(out, sums, store, hold)
 }
 
-fn put_ring(out: &mut [u8], at: usize, e: End) -> usize
+fn put_ring(
+    out: &mut [u8],
+    at: usize,
+    capacity: usize,
+    first: usize,
+    held: usize,
+    kept: usize,
+) -> usize
     requires { ⌜ at + 128 ≤ length (now out) ⌝ }
-    ensures { λ r. ⌜ Puts (now (out .entry)) at (ring-part e) r (now (out .exit)) ⌝ }
+    ensures { λ r. ⌜ Puts (now (out .entry)) at (field " capacity=" capacity ++ field " first=" first ++ field " held=" held ++ field " kept=" kept) r (now (out .exit)) ⌝ }
+    ensures { λ r. ⌜ r ≤ at + 128 ⌝ }
 {
-    let first = put_field(out, at, b" capacity=", e.capacity.0 as u64);
-    let held = put_field(out, first, b" first=", e.first as u64);
-    let kept = put_field(out, held, b" held=", e.held.0 as u64);
-    put_field(out, kept, b" kept=", e.kept.0 as u64)
+    let second = put_field(out, at, b" capacity=", capacity as u64);
+    let third = put_field(out, second, b" first=", first as u64);
+    let fourth = put_field(out, third, b" held=", held as u64);
+    put_field(out, fourth, b" kept=", kept as u64)
 }
 
-fn put_sending(out: &mut [u8], at: usize, e: End) -> usize
+fn put_sending(out: &mut [u8], at: usize, oldest: u16, cursor: u16, sent: u16, acked: u16) -> usize
     requires { ⌜ at + 128 ≤ length (now out) ⌝ }
-    ensures { λ r. ⌜ Puts (now (out .entry)) at (sending-part e) r (now (out .exit)) ⌝ }
+    ensures { λ r. ⌜ Puts (now (out .entry)) at (field " oldest=" oldest ++ field " cursor=" cursor ++ field " sent=" sent ++ field " acked=" acked) r (now (out .exit)) ⌝ }
+    ensures { λ r. ⌜ r ≤ at + 128 ⌝ }
 {
-    let cursor = put_field(out, at, b" oldest=", e.oldest.0 as u64);
-    let sent = put_field(out, cursor, b" cursor=", e.cursor.0 as u64);
-    let acked = put_field(out, sent, b" sent=", e.sent.0 as u64);
-    put_field(out, acked, b" acked=", e.acknowledged.0 as u64)
+    let second = put_field(out, at, b" oldest=", oldest as u64);
+    let third = put_field(out, second, b" cursor=", cursor as u64);
+    let fourth = put_field(out, third, b" sent=", sent as u64);
+    put_field(out, fourth, b" acked=", acked as u64)
 }
 
-fn put_receiving(out: &mut [u8], at: usize, e: End) -> usize
+fn put_receiving(
+    out: &mut [u8],
+    at: usize,
+    wanted: u16,
+    position: u16,
+    owed: usize,
+    stalled: bool,
+    gathered: usize,
+    untold: usize,
+) -> usize
     requires { ⌜ at + 192 ≤ length (now out) ⌝ }
-    ensures { λ r. ⌜ Puts (now (out .entry)) at (receiving-part e) r (now (out .exit)) ⌝ }
+    ensures { λ r. ⌜ Puts (now (out .entry)) at (field " wanted=" wanted ++ field " position=" position ++ field " owed=" owed ++ field " stalled=" (mark-of stalled) ++ field " data=" gathered ++ field " untold=" untold) r (now (out .exit)) ⌝ }
+    ensures { λ r. ⌜ r ≤ at + 192 ⌝ }
 {
-    let position = put_field(out, at, b" wanted=", e.wanted.0 as u64);
-    let owed = put_field(out, position, b" position=", e.position.0 as u64);
-    let stalled = put_field(out, owed, b" owed=", e.owed.0 as u64);
-    let gathered = put_field(out, stalled, b" stalled=", mark(e.stalled));
-    let untold = put_field(out, gathered, b" data=", e.gathered.0 as u64);
-    put_field(out, untold, b" untold=", e.untold.0 as u64)
+    let second = put_field(out, at, b" wanted=", wanted as u64);
+    let third = put_field(out, second, b" position=", position as u64);
+    let fourth = put_field(out, third, b" owed=", owed as u64);
+    let fifth = put_field(out, fourth, b" stalled=", mark(stalled));
+    let sixth = put_field(out, fifth, b" data=", gathered as u64);
+    put_field(out, sixth, b" untold=", untold as u64)
 }
 
-fn put_mode_part(out: &mut [u8], at: usize, e: End) -> usize
+fn put_mode_part(
+    out: &mut [u8],
+    at: usize,
+    mode: Mode,
+    cause: u8,
+    discards: usize,
+    pending: bool,
+) -> usize
     requires { ⌜ at + 128 ≤ length (now out) ⌝ }
-    ensures { λ r. ⌜ Puts (now (out .entry)) at (mode-part e) r (now (out .exit)) ⌝ }
+    ensures { λ r. ⌜ Puts (now (out .entry)) at (ascii " mode=" ++ mode-word mode ++ field " cause=" cause ++ field " discards=" discards ++ field " pending=" (mark-of pending)) r (now (out .exit)) ⌝ }
+    ensures { λ r. ⌜ r ≤ at + 128 ⌝ }
 {
-    let mode = e.mode;
     let word = text::put(out, at, b" mode=");
-    let cause = words::put_mode(out, word, mode);
-    let discards = put_field(out, cause, b" cause=", e.cause as u64);
-    let pending = put_field(out, discards, b" discards=", e.discards as u64);
-    put_field(out, pending, b" pending=", mark(e.pending))
+    let second = words::put_mode(out, word, mode);
+    let third = put_field(out, second, b" cause=", cause as u64);
+    let fourth = put_field(out, third, b" discards=", discards as u64);
+    put_field(out, fourth, b" pending=", mark(pending))
 }
 
 // Eight numbers, newest first.
@@ -146,8 +131,8 @@ fn put_sums(out: &mut [u8], at: usize, store: &[u8], hold: &[u8]) -> usize
     requires { ⌜ at + 64 ≤ length (now out) ⌝ }
     ensures { λ r. ⌜ Puts (now (out .entry)) at (sums-part (now (store .entry)) (now (hold .entry))) r (now (out .exit)) ⌝ }
 {
-    let of_store = adler(store);
-    let of_hold = adler(hold);
+    let of_store = dump::adler(store);
+    let of_hold = dump::adler(hold);
     let second = put_field(out, at, b" store=", of_store);
     let end = put_field(out, second, b" hold=", of_hold);
     text::put(out, end, b"\n")
@@ -159,12 +144,36 @@ pub fn put_ticket(out: &mut [u8], at: usize, counts: Ticket) -> usize
     ensures { λ r. ⌜ Puts (now (out .entry)) at (ticket-text counts) r (now (out .exit)) ⌝ }
 {
     let accepted = text::put(out, at, b"ticket refuse=0");
-    let delivered = put_field(out, accepted, b" accepted=", counts.accepted as u64);
-    let damaged = put_field(out, delivered, b" delivered=", counts.delivered as u64);
-    let duplicate = put_field(out, damaged, b" damaged=", counts.damaged as u64);
-    let downs = put_field(out, duplicate, b" duplicate=", counts.duplicate as u64);
-    let end = put_field(out, downs, b" downs=", counts.downs as u64);
+    let end = put_counts(
+        out,
+        accepted,
+        counts.accepted,
+        counts.delivered,
+        counts.damaged,
+        counts.duplicate,
+        counts.downs,
+    );
     text::put(out, end, b"\n")
+}
+
+fn put_counts(
+    out: &mut [u8],
+    at: usize,
+    accepted: u32,
+    delivered: u32,
+    damaged: u32,
+    duplicate: u32,
+    downs: u32,
+) -> usize
+    requires { ⌜ at + 192 ≤ length (now out) ⌝ }
+    ensures { λ r. ⌜ Puts (now (out .entry)) at (field " accepted=" accepted ++ field " delivered=" delivered ++ field " damaged=" damaged ++ field " duplicate=" duplicate ++ field " downs=" downs) r (now (out .exit)) ⌝ }
+    ensures { λ r. ⌜ r ≤ at + 192 ⌝ }
+{
+    let second = put_field(out, at, b" accepted=", accepted as u64);
+    let third = put_field(out, second, b" delivered=", delivered as u64);
+    let fourth = put_field(out, third, b" damaged=", damaged as u64);
+    let fifth = put_field(out, fourth, b" duplicate=", duplicate as u64);
+    put_field(out, fifth, b" downs=", downs as u64)
 }
 
 // Writes a key and its number, which has at most 20 digits.

@@ -4,11 +4,11 @@ use mathlib.Core.Path.{_≡_, refl}
 use Prim.Native.Nat.{ℕ}
 use Rattle.ends.specs.State.{start}
 use Rattle.ends.specs.declared.state.Started.{Started}
-use Rattle.accept.specs.Accept.{accept, flits-of}
+use Rattle.accept.specs.Accept.{accept, accept-store, flits-of}
 use Rattle.accept.specs.declared.Accepted.{Accepted}
-use Rattle.send.specs.Send.{send}
+use Rattle.send.specs.Send.{send, send-output}
 use Rattle.send.specs.declared.Sent.{Sent as SentBy}
-use Rattle.receive.specs.Receive.{receive}
+use Rattle.receive.specs.Receive.{receive, receive-hold}
 use Rattle.receive.specs.declared.Received.{Received as ReceivedBy}
 use Rattle.ticket.specs.Ticket.{Call, nothing, after}
 use Rattle.ticket.specs.declared.Ticket.{Ticket}
@@ -16,27 +16,40 @@ use Rattle.sides.specs.declared.Side.{Side}
 use Rattle.sides.specs.declared.Took.{Took}
 use Rattle.sides.specs.declared.Sent.{Sent}
 use Rattle.sides.specs.declared.Received.{Received}
-use Rattle.sides.specs.Sides.{lent, after-call, started, accepts, sends, receives}
+use Rattle.sides.specs.Sides.{repeated, lent, after-call, started, accepts, sends, sends-output, receives}
 
-pub started-is : (bytes n : ℕ) (r : Started) (t : Ticket) → n ≡ bytes → r ≡ start n → t ≡ nothing
-    → _≡_ {A = Took} (record { side = record { end = r .end; kept = bytes; store = bytes; hold = 576; ticket = t }; verdict = r .verdict }) (started bytes)
+pub started-is : (bytes n : ℕ) (r : Started) (took : Took) → n ≡ bytes → r ≡ start n
+    → took ≡ record { side = record { end = r .end; kept = bytes; store = bytes; hold = 576; ticket = nothing }; verdict = r .verdict }
+    → took ≡ started bytes
 unfolding started
-started-is bytes n r t e f g = rw (g, f, e) refl
+started-is bytes n r took e f g = rw (g, f, e) refl
 
-module _ (s s' : Side) (store l : List ℕ) (e : l ≡ lent (s .store) store) where
-  pub accepted-is : (unit : List ℕ) (r : Accepted) (t : Ticket) → r ≡ accept (s .end) l unit
-      → t ≡ after (s .ticket) (Call.accepts (r .verdict) (flits-of unit)) → s' ≡ after-call s (r .end) t
-      → _≡_ {A = Took} (record { side = s'; verdict = r .verdict }) (accepts s store unit)
+module _ (s : Side) (store l : List ℕ) (e : l ≡ lent (s .store) store) where
+  pub accepted-is : (unit : List ℕ) (r : Accepted) (t : Ticket) (took : Took) → r ≡ accept (s .end) l unit
+      → t ≡ after (s .ticket) (Call.accepts (r .verdict) (flits-of unit)) → took ≡ record { side = after-call s (r .end) t; verdict = r .verdict }
+      → took ≡ accepts s store unit
   unfolding accepts
-  accepted-is unit r t f g h = rw (h, g, f, e) refl
+  accepted-is unit r t took f g h = rw (h, g, f, e) refl
 
-  pub sent-is : (output n : ℕ) (r : SentBy) → n ≡ output → r ≡ send (s .end) l n → s' ≡ after-call s (r .end) (s .ticket)
-      → _≡_ {A = Sent} (record { side = s'; answer = r .answer }) (sends s store output)
+  pub sent-is : (output n : ℕ) (r : SentBy) (sent : Sent) → n ≡ output → r ≡ send (s .end) l n
+      → sent ≡ record { side = after-call s (r .end) (s .ticket); answer = r .answer } → sent ≡ sends s store output
   unfolding sends
-  sent-is output n r i f h = rw (h, f, i, e) refl
+  sent-is output n r sent i f h = rw (h, f, i, e) refl
 
-  pub received-is : (hold m : List ℕ) (flit : List ℕ) (r : ReceivedBy) (t : Ticket) → m ≡ lent (s .hold) hold → r ≡ receive (s .end) l m flit
-      → t ≡ after (s .ticket) (Call.receives (r .answer)) → s' ≡ after-call s (r .end) t
-      → _≡_ {A = Received} (record { side = s'; answer = r .answer }) (receives s store hold flit)
+  pub sent-output-is : (n errors information : ℕ) (output after : List ℕ) → output ≡ repeated n 165 → after ≡ send-output (s .end) l output errors information
+      → after ≡ sends-output s store n errors information
+  unfolding sends-output
+  sent-output-is n errors information output after i f = rw (f, i, e) refl
+
+  pub held-is : (hold m : List ℕ) (flit after : List ℕ) → m ≡ lent (s .hold) hold → after ≡ receive-hold (s .end) l m flit
+      → after ≡ receive-hold (s .end) (lent (s .store) store) (lent (s .hold) hold) flit
+  held-is hold m flit after i f = rw (f, e, i) refl
+
+  pub stored-is : (unit after : List ℕ) → after ≡ accept-store (s .end) l unit → after ≡ accept-store (s .end) (lent (s .store) store) unit
+  stored-is unit after f = rw (f, e) refl
+
+  pub received-is : (hold m : List ℕ) (flit : List ℕ) (r : ReceivedBy) (t : Ticket) (received : Received) → m ≡ lent (s .hold) hold
+      → r ≡ receive (s .end) l m flit → t ≡ after (s .ticket) (Call.receives (r .answer))
+      → received ≡ record { side = after-call s (r .end) t; answer = r .answer } → received ≡ receives s store hold flit
   unfolding receives
-  received-is hold m flit r t i f g h = rw (h, g, f, e, i) refl
+  received-is hold m flit r t received i f g h = rw (h, g, f, e, i) refl

@@ -3,22 +3,17 @@ use mathlib.Core.Bool.{Bool, _||_}
 use mathlib.Core.List.{List, _++_}
 use Prim.Native.Nat.{ℕ, _+_, _-_}
 use lib.Dec.{leb, eqb}
-use lib.ListN.{length, take, drop, set, replicate}
-use Rattle.ends.specs.Choice.{pick}
+use lib.ListN.{length, take, drop, replicate}
 use Rattle.ends.specs.State.{start}
-use Rattle.ends.specs.Update.{with-information, with-first, with-held, with-kept, with-owed, with-gathered, with-untold, with-discards, with-oldest, with-cursor, with-sent, with-acknowledged, with-wanted, with-position, with-stalled, with-pending, with-cause, with-mode}
 use Rattle.ends.specs.declared.state.End.{End}
-use Rattle.ends.specs.declared.state.Mode.{Mode}
-use Rattle.ends.specs.declared.state.Mode.the-variants.{Run, Wait, Down}
 use Rattle.accept.specs.Accept.{accept, accept-store, flits-of}
 use Rattle.send.specs.Send.{send, send-output}
 use Rattle.receive.specs.Receive.{receive, receive-hold}
 use Rattle.ticket.specs.Ticket.{Call, nothing, after}
 use Rattle.ticket.specs.declared.Ticket.{Ticket}
-use Rattle.script.specs.declared.Field.{Field}
-use Rattle.script.specs.declared.Field.the-variants as field
-use Rattle.script.specs.declared.Key.{Key}
-use Rattle.script.specs.declared.Key.the-variants as key
+use Rattle.names.specs.declared.Field.{Field}
+use Rattle.names.specs.declared.Key.{Key}
+use Rattle.pokes.specs.Pokes.{poked, with-count}
 use Rattle.sides.specs.declared.Side.{Side}
 use Rattle.sides.specs.declared.Took.{Took}
 use Rattle.sides.specs.declared.Sent.{Sent}
@@ -90,55 +85,6 @@ receives-hold s store hold flit = kept-after (receive-hold (s .end) (lent (s .st
 
 -- ---- what calls no operation
 
--- the state with a field set, by the names of the output line; 0 run, 1 wait, 2 down
-unfoldable pub mode-of : ℕ → Mode
-mode-of n = pick (eqb n 0) Run (pick (eqb n 1) Wait Down)
-
-abbrev pub with-capacity : ℕ → End → End
-with-capacity v e =
-    record {
-      information = e .information;
-      capacity = record { 0 = v };
-      first = e .first;
-      held = e .held;
-      kept = e .kept;
-      owed = e .owed;
-      gathered = e .gathered;
-      untold = e .untold;
-      discards = e .discards;
-      oldest = e .oldest;
-      cursor = e .cursor;
-      sent = e .sent;
-      acknowledged = e .acknowledged;
-      wanted = e .wanted;
-      position = e .position;
-      stalled = e .stalled;
-      pending = e .pending;
-      cause = e .cause;
-      mode = e .mode;
-    }
-
-unfoldable pub poked : End → Field → ℕ → End
-poked e field.Capacity v = with-capacity v e
-poked e field.First v = with-first v e
-poked e field.Held v = with-held v e
-poked e field.Kept v = with-kept v e
-poked e field.Oldest v = with-oldest v e
-poked e field.Cursor v = with-cursor v e
-poked e field.Sent v = with-sent v e
-poked e field.Acked v = with-acknowledged v e
-poked e field.Wanted v = with-wanted v e
-poked e field.Position v = with-position v e
-poked e field.Owed v = with-owed v e
-poked e field.Stalled v = with-stalled (eqb v 1) e
-poked e field.Data v = with-gathered v e
-poked e field.Untold v = with-untold v e
-poked e field.Mode v = with-mode (mode-of v) e
-poked e field.Cause v = with-cause v e
-poked e field.Discards v = with-discards v e
-poked e field.Pending v = with-pending (eqb v 1) e
-poked e (field.Info i) v = with-information (set (e .information) i v) e
-
 unfoldable pub pokes : Side → Field → ℕ → Side
 pokes s f v = after-call s (poked (s .end) f v) (s .ticket)
 
@@ -148,18 +94,6 @@ fill-fits kept offset bytes = eqb bytes 0 || leb (offset + bytes) kept
 
 unfoldable pub lends : Side → ℕ → ℕ → Side
 lends s store hold = record { end = s .end; kept = s .kept; store = store; hold = hold; ticket = s .ticket }
-
-abbrev pub with-count : Ticket → Key → ℕ → Ticket
-with-count t key.Accepted n =
-    record { accepted = n; delivered = t .delivered; damaged = t .damaged; duplicate = t .duplicate; downs = t .downs }
-with-count t key.Delivered n =
-    record { accepted = t .accepted; delivered = n; damaged = t .damaged; duplicate = t .duplicate; downs = t .downs }
-with-count t key.Damaged n =
-    record { accepted = t .accepted; delivered = t .delivered; damaged = n; duplicate = t .duplicate; downs = t .downs }
-with-count t key.Duplicate n =
-    record { accepted = t .accepted; delivered = t .delivered; damaged = t .damaged; duplicate = n; downs = t .downs }
-with-count t key.Downs n =
-    record { accepted = t .accepted; delivered = t .delivered; damaged = t .damaged; duplicate = t .duplicate; downs = n }
 
 unfoldable pub counts : Side → Key → ℕ → Side
 counts s k n = after-call s (s .end) (with-count (s .ticket) k n)

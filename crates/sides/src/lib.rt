@@ -1,22 +1,24 @@
 // What each command of a script does to an end with its ticket and its kept buffers: a store buffer, of which the first bytes are the
 // store, and a hold buffer, of which the first 576 are the hold. Nothing is printed here.
-mod state;
-
 use answers::Answer;
 use ends::state::End;
 use ends::state::Verdict;
+use names::Field;
+use names::Key;
 use numbers::FlitCount;
-use script::Field;
-use script::Key;
 use ticket::Ticket;
+ghost use mathlib.Core.Bool.{cond};
 ghost use mathlib.Core.Path.{_≡_};
 ghost use Prim.Native.Nat.{_≤_};
 ghost use lib.ListN.{length, take};
 ghost use Rattle.crc.specs.Register.{table};
+ghost use Rattle.ticket.specs.Ticket.{nothing};
 ghost use Rattle.text.specs.Text.{written};
-ghost use Rattle.script.specs.Script.{most};
-ghost use Rattle.ends.specs.Choice.{pick};
-ghost use Rattle.sides.specs.Sides.{repeated, lent as lent-of, started, accepts, accepts-store, sends, sends-output, receives, receives-hold, pokes, fill-fits, lends, with-count, counts};
+ghost use Rattle.names.specs.Names.{most};
+ghost use Rattle.tokens.specs.Tokens.{over};
+ghost use Rattle.accept.specs.Accept.{accept-store};
+ghost use Rattle.receive.specs.Receive.{receive-hold};
+ghost use Rattle.sides.specs.Sides.{repeated, lent as lent-of, after-call, started, accepts, accepts-store, sends, sends-output, receives, receives-hold, pokes, fill-fits, lends, counts};
 
 // An end with its ticket, the bytes of its store, and how many bytes of store and hold are lent.
 pub struct Side {
@@ -51,25 +53,14 @@ pub fn start(store: &mut [u8], hold: &mut [u8], bytes: usize) -> Took
     ensures { λ r. ⌜ r ≡ started bytes ⌝ }
     ensures { λ _. ⌜ take bytes (now (store .exit)) ≡ repeated bytes 0 ⌝ }
     ensures { λ _. ⌜ take 576 (now (hold .exit)) ≡ repeated 576 0 ⌝ }
+    ensures { λ _. ⌜ now (store .exit) ≡ over (repeated bytes 0) (now (store .entry)) ⌝ }
+    ensures { λ _. ⌜ now (hold .exit) ≡ over (repeated 576 0) (now (hold .entry)) ⌝ }
 {
-    let held = End::HOLD;
-    fill_with(&mut store[0..bytes], 0);
-    fill_with(&mut hold[0..held], 0);
+    clear_first(store, bytes);
+    clear_first(hold, End::HOLD);
     let started = End::start(&store[0..bytes]);
     let verdict = started.verdict;
-    let end = started.end;
-    let zeros = ticket::fresh();
-    let side = Side {
-        end: end,
-        kept: bytes,
-        store: bytes,
-        hold: held,
-        ticket: zeros,
-    };
-    Took {
-        side: side,
-        verdict: verdict,
-    }
+    started_with(bytes, started.end, verdict)
 }
 
 // Accept with a unit.
@@ -77,19 +68,15 @@ pub fn accept(side: Side, store: &mut [u8], unit: &[u8]) -> Took
     requires { ⌜ (side .kept ≤ length (now store)) × (side .store ≤ length (now store)) ⌝ }
     ensures { λ r. ⌜ r ≡ accepts side (take (side .kept) (now (store .entry))) (now (unit .entry)) ⌝ }
     ensures { λ _. ⌜ take (side .kept) (now (store .exit)) ≡ accepts-store side (take (side .kept) (now (store .entry))) (now (unit .entry)) ⌝ }
+    ensures { λ _. ⌜ now (store .exit) ≡ over (accept-store (side .end) (lent-of (side .store) (take (side .kept) (now (store .entry)))) (now (unit .entry))) (now (store .entry)) ⌝ }
 {
     let lent = side.store;
     clear_past(store, side.kept, lent);
     let accepted = accept::accept(side.end, &mut store[0..lent], unit);
     let verdict = accepted.verdict;
-    let end = accepted.end;
     let flits = FlitCount(unit.len() / 64);
     let counted = ticket::after_accept(side.ticket, verdict, flits);
-    let after = after_call(side, end, counted);
-    Took {
-        side: after,
-        verdict: verdict,
-    }
+    took_with(side, accepted.end, counted, verdict)
 }
 
 // Send with an output of which each byte is 165 before the call.
@@ -105,19 +92,14 @@ pub fn send(
     ensures { λ r. ⌜ r ≡ sends side (take (side .kept) (now (store .entry))) (length (now (output .entry))) ⌝ }
     ensures { λ _. ⌜ now (output .exit) ≡ sends-output side (take (side .kept) (now (store .entry))) (length (now (output .entry))) errors information ⌝ }
     ensures { λ _. ⌜ take (side .kept) (now (store .exit)) ≡ take (side .kept) (now (store .entry)) ⌝ }
+    ensures { λ _. ⌜ now (store .exit) ≡ over (lent-of (side .store) (take (side .kept) (now (store .entry)))) (now (store .entry)) ⌝ }
 {
     let lent = side.store;
     clear_past(store, side.kept, lent);
     fill_with(output, 165);
     let sent = send::send_with(t, side.end, &store[0..lent], output, errors, information);
     let answer = sent.answer;
-    let end = sent.end;
-    let counted = side.ticket;
-    let after = after_call(side, end, counted);
-    Sent {
-        side: after,
-        answer: answer,
-    }
+    sent_with(side, sent.end, answer)
 }
 
 // Receive with a flit.
@@ -132,6 +114,8 @@ pub fn receive(
     ensures { λ r. ⌜ r ≡ receives side (take (side .kept) (now (store .entry))) (take 576 (now (hold .entry))) (now (flit .entry)) ⌝ }
     ensures { λ _. ⌜ take (side .kept) (now (store .exit)) ≡ take (side .kept) (now (store .entry)) ⌝ }
     ensures { λ _. ⌜ take 576 (now (hold .exit)) ≡ receives-hold side (take (side .kept) (now (store .entry))) (take 576 (now (hold .entry))) (now (flit .entry)) ⌝ }
+    ensures { λ _. ⌜ now (store .exit) ≡ over (lent-of (side .store) (take (side .kept) (now (store .entry)))) (now (store .entry)) ⌝ }
+    ensures { λ _. ⌜ now (hold .exit) ≡ over (receive-hold (side .end) (lent-of (side .store) (take (side .kept) (now (store .entry)))) (lent-of (side .hold) (take 576 (now (hold .entry)))) (now (flit .entry))) (now (hold .entry)) ⌝ }
 {
     let lent = side.store;
     let lent_hold = side.hold;
@@ -145,20 +129,16 @@ pub fn receive(
         flit,
     );
     let answer = received.answer;
-    let end = received.end;
     let counted = ticket::after_receive(side.ticket, answer);
-    let after = after_call(side, end, counted);
-    Received {
-        side: after,
-        answer: answer,
-    }
+    received_with(side, received.end, counted, answer)
 }
 
 // Writes bytes into the store, if all of them are inside it, and says whether they are.
 pub fn fill(kept: usize, store: &mut [u8], offset: u64, bytes: &[u8]) -> bool
     requires { ⌜ kept ≤ length (now store) ⌝ }
     ensures { λ r. ⌜ r ≡ fill-fits kept offset (length (now (bytes .entry))) ⌝ }
-    ensures { λ _. ⌜ take kept (now (store .exit)) ≡ pick (fill-fits kept offset (length (now (bytes .entry)))) (written (take kept (now (store .entry))) offset (now (bytes .entry))) (take kept (now (store .entry))) ⌝ }
+    ensures { λ _. ⌜ take kept (now (store .exit)) ≡ cond (fill-fits kept offset (length (now (bytes .entry)))) (written (take kept (now (store .entry))) offset (now (bytes .entry))) (take kept (now (store .entry))) ⌝ }
+    ensures { λ _. ⌜ now (store .exit) ≡ cond (fill-fits kept offset (length (now (bytes .entry)))) (over (written (take kept (now (store .entry))) offset (now (bytes .entry))) (now (store .entry))) (now (store .entry)) ⌝ }
 {
     let n = bytes.len();
     if n == 0 {
@@ -181,9 +161,8 @@ pub fn poke(side: Side, field: Field, value: u64) -> Side
     requires { ⌜ value ≤ most field ⌝ }
     ensures { λ r. ⌜ r ≡ pokes side field value ⌝ }
 {
-    let end = state::poked(side.end, field, value);
-    let counted = side.ticket;
-    after_call(side, end, counted)
+    let end = pokes::poked(side.end, field, value);
+    after_call(side, end, side.ticket)
 }
 
 // From now on calls get so many bytes of store and hold.
@@ -200,38 +179,62 @@ pub fn lend(side: Side, store: usize, hold: usize) -> Side
 pub fn count(side: Side, key: Key, n: u32) -> Side
     ensures { λ r. ⌜ r ≡ counts side key n ⌝ }
 {
-    let end = side.end;
-    let ticket = with_count(side.ticket, key, n);
-    after_call(side, end, ticket)
+    let ticket = pokes::with_count(side.ticket, key, n);
+    after_call(side, side.end, ticket)
 }
 
-fn with_count(ticket: Ticket, key: Key, n: u32) -> Ticket
-    ensures { λ r. ⌜ r ≡ with-count ticket key n ⌝ }
+// The side that start makes: a ticket of zeros, and both buffers lent at full length.
+fn started_with(bytes: usize, end: End, verdict: Verdict) -> Took
+    ensures { λ r. ⌜ r ≡ record { side = record { end = end; kept = bytes; store = bytes; hold = 576; ticket = nothing }; verdict = verdict } ⌝ }
 {
-    let mut next = ticket;
-    match key {
-        Key::Accepted => {
-            next.accepted = n;
-        }
-        Key::Delivered => {
-            next.delivered = n;
-        }
-        Key::Damaged => {
-            next.damaged = n;
-        }
-        Key::Duplicate => {
-            next.duplicate = n;
-        }
-        Key::Downs => {
-            next.downs = n;
-        }
+    let zeros = ticket::fresh();
+    let side = Side {
+        end: end,
+        kept: bytes,
+        store: bytes,
+        hold: End::HOLD,
+        ticket: zeros,
+    };
+    Took {
+        side: side,
+        verdict: verdict,
     }
-    next
+}
+
+// The side with another state and ticket, and an answer.
+fn took_with(side: Side, end: End, ticket: Ticket, verdict: Verdict) -> Took
+    ensures { λ r. ⌜ r ≡ record { side = after-call side end ticket; verdict = verdict } ⌝ }
+{
+    let after = after_call(side, end, ticket);
+    Took {
+        side: after,
+        verdict: verdict,
+    }
+}
+
+fn sent_with(side: Side, end: End, answer: send::Answer) -> Sent
+    ensures { λ r. ⌜ r ≡ record { side = after-call side end (side .ticket); answer = answer } ⌝ }
+{
+    let after = after_call(side, end, side.ticket);
+    Sent {
+        side: after,
+        answer: answer,
+    }
+}
+
+fn received_with(side: Side, end: End, ticket: Ticket, answer: Answer) -> Received
+    ensures { λ r. ⌜ r ≡ record { side = after-call side end ticket; answer = answer } ⌝ }
+{
+    let after = after_call(side, end, ticket);
+    Received {
+        side: after,
+        answer: answer,
+    }
 }
 
 // The side with another state and ticket.
 fn after_call(side: Side, end: End, ticket: Ticket) -> Side
-    ensures { λ r. ⌜ r ≡ record { end = end; kept = side .kept; store = side .store; hold = side .hold; ticket = ticket } ⌝ }
+    ensures { λ r. ⌜ r ≡ after-call side end ticket ⌝ }
 {
     Side {
         end: end,
@@ -242,10 +245,18 @@ fn after_call(side: Side, end: End, ticket: Ticket) -> Side
     }
 }
 
+// Zeros in the first bytes of a buffer.
+fn clear_first(buffer: &mut [u8], n: usize)
+    requires { ⌜ n ≤ length (now buffer) ⌝ }
+    ensures { λ _. ⌜ now (buffer .exit) ≡ over (repeated n 0) (now (buffer .entry)) ⌝ }
+{
+    fill_with(&mut buffer[0..n], 0);
+}
+
 // Zeros from the kept bytes of a buffer on: then its first bytes are those that are lent.
 fn clear_past(buffer: &mut [u8], kept: usize, lent: usize)
     requires { ⌜ (kept ≤ length (now buffer)) × (lent ≤ length (now buffer)) ⌝ }
-    ensures { λ _. ⌜ take lent (now (buffer .exit)) ≡ lent-of lent (take kept (now (buffer .entry))) ⌝ }
+    ensures { λ _. ⌜ now (buffer .exit) ≡ over (lent-of lent (take kept (now (buffer .entry)))) (now (buffer .entry)) ⌝ }
     ensures { λ _. ⌜ take kept (now (buffer .exit)) ≡ take kept (now (buffer .entry)) ⌝ }
 {
     if kept < lent {

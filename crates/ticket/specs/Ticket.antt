@@ -1,11 +1,11 @@
 -- The counts of a session (01, "The bench ticket"): what a call adds to each, and the ticket as text. Assumes nothing.
+use mathlib.Core.Bool.{cond}
 use mathlib.Core.List.{List, [], _∷_, _++_}
 use Prim.Native.Nat.{ℕ, _+_, min}
 use Prim.Native.String.{String}
 use lib.Dec.{leb}
 use lib.ListN.{length}
 use Rattle.text.specs.Text.{ascii, decimal, written}
-use Rattle.ends.specs.Choice.{pick}
 use Rattle.ends.specs.declared.state.Verdict.{Verdict}
 use Rattle.ends.specs.declared.state.Verdict.the-variants as verdict
 use Rattle.answers.specs.declared.Answer.{Answer}
@@ -79,7 +79,7 @@ text t =
 
 -- the text goes to the start of a buffer; nothing is written where that is shorter than the text
 unfoldable pub answer-for : Ticket → ℕ → Output
-answer-for t bytes = pick (leb (length (text t)) bytes) (Written (length (text t))) Short
+answer-for t bytes = cond (leb (length (text t)) bytes) (Written (length (text t))) Short
 
 unfoldable pub output : Ticket → List ℕ → List ℕ
-output t out = pick (leb (length (text t)) (length out)) (written out 0 (text t)) out
+output t out = cond (leb (length (text t)) (length out)) (written out 0 (text t)) out

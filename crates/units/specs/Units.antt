@@ -6,7 +6,7 @@ use lib.Dec.{ltb}
 use Rattle.crc.specs.Seal.{sealed}
 use Rattle.flits.specs.Bytes.{read}
 use Rattle.flits.specs.Fields.{content, run-length}
-use Rattle.flits.specs.Flits.{control-told}
+use Rattle.compose.specs.Flits.{control-told}
 use Rattle.ends.specs.Ring.{flit-at, place, stored}
 use Rattle.ends.specs.Refusals.{cursor-at}
 use Rattle.ends.specs.declared.state.End.{End}

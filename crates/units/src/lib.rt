@@ -3,7 +3,6 @@ use ends::ring;
 use ends::state::End;
 use flits::copy;
 use flits::read;
-use flits::write;
 use numbers::FlitCount;
 ghost use mathlib.Core.Path.{_≡_};
 ghost use mathlib.Core.List.{_++_};
@@ -34,7 +33,7 @@ pub fn write_unit(
     let at_end = at + 64;
     let control = copy::taken(&store[at..at_end]);
     let next = read::run_length(read::content(&control));
-    let told = write::control_told(control, acks, 0 < next.0);
+    let told = compose::control_told(control, acks, 0 < next.0);
     let to = data * 64;
     let to_end = to + 64;
     copy::put(&mut output[to..to_end], told);
@@ -50,12 +49,8 @@ fn copy_flits(e: End, store: &[u8], from: usize, flits: usize, output: &mut [u8]
     let first = e.first;
     let mut n: usize = 0;
     while n < flits {
-        let at = ring::place(places, first, from + n) * 64;
-        let at_end = at + 64;
-        let to = n * 64;
-        let to_end = to + 64;
-        let flit = copy::taken(&store[at..at_end]);
-        copy::put(&mut output[to..to_end], flit);
+        let at = ring::place(places, first, from + n);
+        ring::copy_flit(store, at, output, n);
         n += 1;
     }
 }

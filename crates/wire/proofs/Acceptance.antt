@@ -12,7 +12,7 @@ use lib.Seq.{take-at, take-suc}
 use Rattle.numbers.specs.declared.FlitCount.{FlitCount}
 use Rattle.crc.specs.Unit.{right}
 use Rattle.flits.specs.Fields.{fields-of, replay as replay-run, idle as idle-run}
-use Rattle.flits.specs.Flits.{bare-control}
+use Rattle.compose.specs.Flits.{bare-control}
 use Rattle.flits.specs.declared.Fields.{Fields}
 use Rattle.ends.specs.State.{verdict-number}
 use Rattle.ends.specs.Refusals.{store-is, sound, is-down, last-run}
@@ -20,7 +20,7 @@ use Rattle.ends.specs.declared.state.End.{End as KeptEnd}
 use Rattle.ends.specs.declared.state.Mode.{Mode as KeptMode}
 use Rattle.ends.specs.declared.state.Mode.the-variants.{Run, Wait, Down}
 use Rattle.ends.specs.declared.state.Verdict.{Verdict}
-use Rattle.ends.proofs.Tests.{pick-false, pick-either}
+use Rattle.ends.proofs.Tests.{cond-false, cond-either}
 use Rattle.accept.specs.Accept as accept
 use Rattle.arrivals.specs.Arrivals.{holds, damaged, skips, newly-covered, past-sent, behind, checked}
 use Rattle.answers.specs.Answers.{half, replay-answer, plain-answer, run-answer, wait-answer, mode-answer, refusal-number}
@@ -74,16 +74,16 @@ unfolding accept.verdict
 accept-other q store unit f =
     subst (λ (v : Verdict). Other (verdict-number v))
     (sym
-    (pick-false (not (store-is q (length store))) _ _ (ap not (f .store-ok))
-    ∙ pick-false (not (sound q store)) _ _ (ap not (f .state-ok))))
-    (pick-either (λ (v : Verdict). Other (verdict-number v)) (not (accept.unit-shaped (length unit))) _ _ (λ h. other-3)
+    (cond-false (not (store-is q (length store))) _ _ (ap not (f .store-ok))
+    ∙ cond-false (not (sound q store)) _ _ (ap not (f .state-ok))))
+    (cond-either (λ (v : Verdict). Other (verdict-number v)) (not (accept.unit-shaped (length unit))) _ _ (λ h. other-3)
     (λ h3.
-    subst (λ (v : Verdict). Other (verdict-number v)) (sym (pick-false (is-down (q .mode)) _ _ (f .up)))
-    (pick-either (λ (v : Verdict). Other (verdict-number v)) (not (eqb (accept.flits-of unit - 1) (last-run q store))) _ _ (λ h. over-5 6 (omega arith))
+    subst (λ (v : Verdict). Other (verdict-number v)) (sym (cond-false (is-down (q .mode)) _ _ (f .up)))
+    (cond-either (λ (v : Verdict). Other (verdict-number v)) (not (eqb (accept.flits-of unit - 1) (last-run q store))) _ _ (λ h. over-5 6 (omega arith))
     (λ h5.
-    pick-either (λ (v : Verdict). Other (verdict-number v)) (not (Rattle.flits.specs.Fields.acceptable (accept.control-of unit))) _ _ (λ h. over-5 7 (omega arith))
+    cond-either (λ (v : Verdict). Other (verdict-number v)) (not (Rattle.flits.specs.Fields.acceptable (accept.control-of unit))) _ _ (λ h. over-5 7 (omega arith))
     (λ h6.
-    pick-either (λ (v : Verdict). Other (verdict-number v)) (ltb (q .capacity .0) (q .held .0 + accept.flits-of unit)) _ _ (λ h. over-5 8 (omega arith))
+    cond-either (λ (v : Verdict). Other (verdict-number v)) (ltb (q .capacity .0) (q .held .0 + accept.flits-of unit)) _ _ (λ h. over-5 8 (omega arith))
     (λ h7. other-0))))))
 
 -- what is answered in mode run and in mode wait is no refusal
@@ -93,28 +93,28 @@ Taken a = refusal-number a ≡ 0
 replay-taken : (q : KeptEnd) (x : Fields) → Taken (replay-answer q x)
 unfolding replay-answer
 replay-taken q x =
-    pick-either Taken (x .short) _ _ (λ h. refl)
-    (λ h. pick-either Taken (ltb 8 (x .previous .0)) _ _ (λ h. refl)
-    (λ h. pick-either Taken (past-sent q (newly-covered q (x .last .0))) _ _ (λ h. refl)
-    (λ h. pick-either Taken (ltb (behind q (x .start .0)) half) _ _ (λ h. refl) (λ h. refl))))
+    cond-either Taken (x .short) _ _ (λ h. refl)
+    (λ h. cond-either Taken (ltb 8 (x .previous .0)) _ _ (λ h. refl)
+    (λ h. cond-either Taken (past-sent q (newly-covered q (x .last .0))) _ _ (λ h. refl)
+    (λ h. cond-either Taken (ltb (behind q (x .start .0)) half) _ _ (λ h. refl) (λ h. refl))))
 
 plain-taken : (q : KeptEnd) (x : Fields) → Taken (plain-answer q x)
 unfolding plain-answer
 plain-taken q x =
-    pick-either Taken (x .short) _ _ (λ h. refl)
-    (λ h. pick-either Taken (past-sent q (x .acks .0)) _ _ (λ h. refl)
-    (λ h. pick-either Taken (eqb (x .run .0) idle-run) _ _ (λ h. refl)
-    (λ h. pick-either Taken (not (eqb (q .position .0) (q .wanted .0))) _ _ (λ h. refl)
-    (λ h. pick-either Taken (ltb 1024 (q .untold .0 + (q .gathered .0 + 1))) _ _ (λ h. refl) (λ h. refl)))))
+    cond-either Taken (x .short) _ _ (λ h. refl)
+    (λ h. cond-either Taken (past-sent q (x .acks .0)) _ _ (λ h. refl)
+    (λ h. cond-either Taken (eqb (x .run .0) idle-run) _ _ (λ h. refl)
+    (λ h. cond-either Taken (not (eqb (q .position .0) (q .wanted .0))) _ _ (λ h. refl)
+    (λ h. cond-either Taken (ltb 1024 (q .untold .0 + (q .gathered .0 + 1))) _ _ (λ h. refl) (λ h. refl)))))
 
 mode-taken : (m : KeptMode) (q : KeptEnd) (x : Fields) (c : Bool) → is-down m ≡ false → Taken (mode-answer m q x c)
 unfolding run-answer wait-answer
 mode-taken Run q x c h =
-    pick-either Taken (holds q) _ _ (λ h. refl)
-    (λ h. pick-either Taken (damaged q x c) _ _ (λ h. refl)
-    (λ h. pick-either Taken (skips x) _ _ (λ h. refl)
-    (λ h. pick-either Taken (eqb (x .run .0) replay-run) _ _ (λ h. replay-taken q x) (λ h. plain-taken q x))))
-mode-taken Wait q x c h = pick-either Taken (c && eqb (x .run .0) replay-run) _ _ (λ h. replay-taken q x) (λ h. refl)
+    cond-either Taken (holds q) _ _ (λ h. refl)
+    (λ h. cond-either Taken (damaged q x c) _ _ (λ h. refl)
+    (λ h. cond-either Taken (skips x) _ _ (λ h. refl)
+    (λ h. cond-either Taken (eqb (x .run .0) replay-run) _ _ (λ h. replay-taken q x) (λ h. plain-taken q x))))
+mode-taken Wait q x c h = cond-either Taken (c && eqb (x .run .0) replay-run) _ _ (λ h. replay-taken q x) (λ h. refl)
 mode-taken Down q x c h = absurd (true≢false h)
 
 -- ---- a unit that is handed on

@@ -2,7 +2,7 @@
 -- is among the first t flits are those that have arrived when t flits have; and where nothing was altered, the units along a wire are the
 -- units of the sender's stream, one after the other. Assumes nothing.
 use mathlib.Core.Path.{_≡_, refl, ap, ap₂, sym, _∙_}
-use mathlib.Core.Bool.{Bool, true, false, _&&_, true≢false}
+use mathlib.Core.Bool.{Bool, true, false, _&&_, true≢false, cond}
 use mathlib.Core.List.{List, [], _∷_, _++_, map, append-assoc, append-nil}
 use Prim.Native.Nat.{ℕ, zero, suc, _+_, _-_, _*_, _≤_, _<_}
 use native.Mathlib.Omega.{arith}
@@ -11,10 +11,9 @@ use borrow.Author.Tests.{le-leb, lt-leb, eq-eqb, ne-eqb}
 use lib.Dec.{leb, eqb}
 use lib.ListN.{length, take, drop, getD, length-append, List·getD-append}
 use lib.Seq.{take-at, drop-at, take-append-add, take-append-le, getD-append-add}
-use Rattle.flits.specs.Flits.{bare-control}
-use Rattle.ends.specs.Choice.{pick}
+use Rattle.compose.specs.Flits.{bare-control}
 use Rattle.ends.specs.Ring.{flit-at}
-use Rattle.ends.proofs.Tests.{and-false-l, pick-true, pick-false}
+use Rattle.ends.proofs.Tests.{and-false-l, cond-true, cond-false}
 use Rattle.link.specs.Stream.{Stream, first, Flit, Item, part, control, idle, replay}
 use Rattle.link.proofs.Chain.{Chain, after, final, Wire, Fits}
 use Rattle.link.proofs.Clean.{Straight, Goes}
@@ -119,16 +118,16 @@ locate (p ∷ ps) i s h = go (decLt i (flits p)) (λ k. locate ps (i - flits p) 
 
 abbrev pub sents : List Flight → List (List ℕ)
 sents [] = []
-sents (y ∷ ys) = pick (ends-unit y) (y .sent ∷ sents ys) (sents ys)
+sents (y ∷ ys) = cond (ends-unit y) (y .sent ∷ sents ys) (sents ys)
 
-pick-append : (b : Bool) (x : List ℕ) (u v : List (List ℕ)) → pick b (x ∷ (u ++ v)) (u ++ v) ≡ pick b (x ∷ u) u ++ v
-pick-append true x u v = refl
-pick-append false x u v = refl
+cond-append : (b : Bool) (x : List ℕ) (u v : List (List ℕ)) → cond b (x ∷ (u ++ v)) (u ++ v) ≡ cond b (x ∷ u) u ++ v
+cond-append true x u v = refl
+cond-append false x u v = refl
 
 pub sents-append : (xs ys : List Flight) → sents (xs ++ ys) ≡ sents xs ++ sents ys
 sents-append [] ys = refl
 sents-append (x ∷ xs) ys =
-    ap (λ (l : List (List ℕ)). pick (ends-unit x) (x .sent ∷ l) l) (sents-append xs ys) ∙ pick-append (ends-unit x) (x .sent) (sents xs) (sents ys)
+    ap (λ (l : List (List ℕ)). cond (ends-unit x) (x .sent ∷ l) l) (sents-append xs ys) ∙ cond-append (ends-unit x) (x .sent) (sents xs) (sents ys)
 
 module _ (p : Passage) (size : length (p .arrives) ≡ flits p * 64) where
   not-last : (k : ℕ) → suc k < flits p → ends-unit (at p k) ≡ false
@@ -144,20 +143,20 @@ module _ (p : Passage) (size : length (p .arrives) ≡ flits p * 64) where
   spread-open k zero t e h = absurd (omega arith)
   spread-open k (suc n) zero e h = refl
   spread-open k (suc n) (suc t) e h =
-      pick-false (ends-unit (at p k)) _ _ (not-last k (omega arith)) ∙ spread-open (suc k) n t (omega arith) (omega arith)
+      cond-false (ends-unit (at p k)) _ _ (not-last k (omega arith)) ∙ spread-open (suc k) n t (omega arith) (omega arith)
 
-  spread-all : (k n : ℕ) → k + suc n ≡ flits p → sents (spread p k (suc n)) ≡ pick (is-unit (p .sent)) (p .sent ∷ []) []
-  spread-all k zero e = ap (λ (b : Bool). pick b (p .sent ∷ []) []) (is-last k (omega arith))
-  spread-all k (suc n) e = pick-false (ends-unit (at p k)) _ _ (not-last k (omega arith)) ∙ spread-all (suc k) n (omega arith)
+  spread-all : (k n : ℕ) → k + suc n ≡ flits p → sents (spread p k (suc n)) ≡ cond (is-unit (p .sent)) (p .sent ∷ []) []
+  spread-all k zero e = ap (λ (b : Bool). cond b (p .sent ∷ []) []) (is-last k (omega arith))
+  spread-all k (suc n) e = cond-false (ends-unit (at p k)) _ _ (not-last k (omega arith)) ∙ spread-all (suc k) n (omega arith)
 
-  spread-whole : 1 ≤ flits p → sents (spread p 0 (flits p)) ≡ pick (is-unit (p .sent)) (p .sent ∷ []) []
+  spread-whole : 1 ≤ flits p → sents (spread p 0 (flits p)) ≡ cond (is-unit (p .sent)) (p .sent ∷ []) []
   spread-whole h =
       let e : suc (flits p - 1) ≡ flits p = omega arith in
       ap (λ (n : ℕ). sents (spread p 0 n)) (sym e) ∙ spread-all 0 (flits p - 1) (omega arith)
 
-pick-front : (b : Bool) (x : List ℕ) (l : List (List ℕ)) → pick b (x ∷ []) [] ++ l ≡ pick b (x ∷ l) l
-pick-front true x l = refl
-pick-front false x l = refl
+cond-front : (b : Bool) (x : List ℕ) (l : List (List ℕ)) → cond b (x ∷ []) [] ++ l ≡ cond b (x ∷ l) l
+cond-front true x l = refl
+cond-front false x l = refl
 
 pub arrived-sents : (t : ℕ) (ps : List Passage) → Sized ps → arrived-units t ps ≡ sents (take t (flights ps))
 unfolding arrived-units
@@ -169,17 +168,17 @@ arrived-sents t (p ∷ ps) s = go (decLe (flits p) t) (arrived-sents (t - flits 
     len = length-spread p 0 (flits p)
 
     go : Dec (flits p ≤ t) → arrived-units (t - flits p) ps ≡ sents (take (t - flits p) (flights ps))
-        → pick (leb (flits p) t) (pick (is-unit (p .sent)) (p .sent ∷ arrived-units (t - flits p) ps) (arrived-units (t - flits p) ps)) []
+        → cond (leb (flits p) t) (cond (is-unit (p .sent)) (p .sent ∷ arrived-units (t - flits p) ps) (arrived-units (t - flits p) ps)) []
         ≡ sents (take t (spread p 0 (flits p) ++ flights ps))
     go (yes a) ih =
         let e : length (spread p 0 (flits p)) + (t - flits p) ≡ t = omega (arith, len) in
-        pick-true (leb (flits p) t) _ _ (le-leb (flits p) t a)
-        ∙ sym (pick-front (is-unit (p .sent)) (p .sent) (arrived-units (t - flits p) ps))
+        cond-true (leb (flits p) t) _ _ (le-leb (flits p) t a)
+        ∙ sym (cond-front (is-unit (p .sent)) (p .sent) (arrived-units (t - flits p) ps))
         ∙ ap₂ (λ (u v : List (List ℕ)). u ++ v) (sym (spread-whole p (s .0) (s .1))) ih
         ∙ sym (sents-append (spread p 0 (flits p)) (take (t - flits p) (flights ps)))
         ∙ ap sents (sym (take-append-add (spread p 0 (flits p)) (flights ps) (t - flits p)) ∙ ap (λ (n : ℕ). take n (spread p 0 (flits p) ++ flights ps)) e)
     go (no a) ih =
-        pick-false (leb (flits p) t) _ _ (lt-leb (flits p) t (omega arith))
+        cond-false (leb (flits p) t) _ _ (lt-leb (flits p) t (omega arith))
         ∙ sym (spread-open p (s .0) 0 (flits p) t (omega arith) (omega arith))
         ∙ ap sents (sym (take-append-le t (spread p 0 (flits p)) (flights ps) (omega (arith, len))))
 
@@ -217,15 +216,15 @@ units-along f c (x ∷ l) (y ∷ ys) w r s =
         → Fits most f c (record { flit = x; ok = ok; lo = lo; hi = hi }) → Reads f (c .got) x ok y → ok ≡ true → Goes c x → (ys : List Flight)
         → units (first f (c .pos)) ++ handeds (y ∷ ys) ≡ units (first f (Rattle.link.proofs.Chain.step c x lo hi .pos)) ++ handeds ys
     on f c (part v) ok lo hi y w r o g ys =
-        ap (λ (u : List (List ℕ)). units (first f (c .pos)) ++ map as-handed u) (pick-false (ends-unit y) _ _ (r .ends))
+        ap (λ (u : List (List ℕ)). units (first f (c .pos)) ++ map as-handed u) (cond-false (ends-unit y) _ _ (r .ends))
     on f c (control b n k st) true lo hi y w r o g ys =
         let u : as-handed (y .sent) ≡ bytes-of (f (c .pos)) = closing-is (c .got) b n k st y r ∙ ap bytes-of (w .fit .same refl) in
-        ap (λ (v : List (List ℕ)). units (first f (c .pos)) ++ map as-handed v) (pick-true (ends-unit y) _ _ (r .ends))
+        ap (λ (v : List (List ℕ)). units (first f (c .pos)) ++ map as-handed v) (cond-true (ends-unit y) _ _ (r .ends))
         ∙ ap (λ (v : List ℕ). units (first f (c .pos)) ++ (v ∷ handeds ys)) u
         ∙ sym (append-assoc (units (first f (c .pos))) (bytes-of (f (c .pos)) ∷ []) (handeds ys))
         ∙ ap (λ (v : List (List ℕ)). v ++ handeds ys) (sym (units-append (first f (c .pos)) (f (c .pos) ∷ [])))
     on f c (control b n k st) false lo hi y w r o g ys = absurd (true≢false (sym o))
     on f c (idle k st n) ok lo hi y w r o g ys =
-        ap (λ (u : List (List ℕ)). units (first f (c .pos)) ++ map as-handed u) (pick-false (ends-unit y) _ _ (r .ends))
+        ap (λ (u : List (List ℕ)). units (first f (c .pos)) ++ map as-handed u) (cond-false (ends-unit y) _ _ (r .ends))
     on f c (replay na p n st t) ok lo hi y w r o g ys =
-        ap₂ (λ (i : ℕ) (u : List (List ℕ)). units (first f i) ++ map as-handed u) (sym g) (pick-false (ends-unit y) _ _ (r .ends))
+        ap₂ (λ (i : ℕ) (u : List (List ℕ)). units (first f i) ++ map as-handed u) (sym g) (cond-false (ends-unit y) _ _ (r .ends))

@@ -1,7 +1,7 @@
 -- A replay flit on bytes does what it does on the abstract link: the acknowledge number is understood, and d = wanted - start is under half
 -- exactly when the replay does not start past wanted. Assumes nothing.
 use mathlib.Core.Path.{_≡_, refl, ap, ap₂, sym, subst, _∙_}
-use mathlib.Core.Bool.{Bool, true, false}
+use mathlib.Core.Bool.{Bool, true, false, cond}
 use mathlib.Core.Logic.{_≢_}
 use mathlib.Core.List.{List, [], _++_}
 use Prim.Native.Nat.{ℕ, _+_, _-_, _^_, _≤_, _<_}
@@ -15,11 +15,10 @@ use Rattle.numbers.specs.Numbers.{width, difference, wanted-by}
 use Rattle.numbers.proofs.Laws.{wanted-told}
 use Rattle.flits.specs.Fields.{fields-of}
 use Rattle.flits.specs.declared.Fields.{Fields}
-use Rattle.ends.specs.Choice.{pick}
 use Rattle.ends.specs.declared.state.End.{End as KeptEnd}
 use Rattle.ends.specs.declared.state.Mode.{Mode as KeptMode}
 use Rattle.ends.specs.declared.state.Mode.the-variants.{Run, Wait}
-use Rattle.ends.proofs.Tests.{pick-true, pick-false}
+use Rattle.ends.proofs.Tests.{cond-true, cond-false}
 use Rattle.arrivals.specs.Arrivals.{behind, newly-covered, past-sent}
 use Rattle.answers.specs.Answers.{half, replay-answer}
 use Rattle.answers.specs.declared.Answer.{Answer}
@@ -122,12 +121,12 @@ module _ (f g : Stream) (store : List ℕ) (e : End) (d : Chain) (q : KeptEnd) (
       start-le : num g p ≤ num g hi
       start-le = num-le g p hi (w .fits .fit .below)
 
-      answers : replay-answer q x ≡ pick (ltb (behind q (x .start .0)) half) answer.Replayed answer.Ahead
+      answers : replay-answer q x ≡ cond (ltb (behind q (x .start .0)) half) answer.Replayed answer.Ahead
       unfolding replay-answer
       answers =
-          pick-false (x .short) _ _ (s .short)
-          ∙ pick-false (ltb 8 (x .previous .0)) _ _ (le-ltb 8 (x .previous .0) (omega (arith, s .owes, s .le)))
-          ∙ pick-false (past-sent q (newly-covered q (x .last .0))) _ _ (ap (past-sent q) new ∙ in-order (t - e .s .acked) (w .own) le)
+          cond-false (x .short) _ _ (s .short)
+          ∙ cond-false (ltb 8 (x .previous .0)) _ _ (le-ltb 8 (x .previous .0) (omega (arith, s .owes, s .le)))
+          ∙ cond-false (past-sent q (newly-covered q (x .last .0))) _ _ (ap (past-sent q) new ∙ in-order (t - e .s .acked) (w .own) le)
 
       placed-kept : (mo : Mode) (pl : KeptEnd) → pl .mode ≡ mode-of mo → pl .wanted .0 ≡ asked .wanted .0 → pl .position .0 ≡ x .start .0
           → pl .owed .0 ≡ x .previous .0 → pl .stalled ≡ x .stalled → pl .gathered .0 ≡ 0 → pl .untold .0 ≡ asked .untold .0 → pl .discards < patience
@@ -155,7 +154,7 @@ module _ (f g : Stream) (store : List ℕ) (e : End) (d : Chain) (q : KeptEnd) (
           ap₂ (difference width) (k .wanted) (s .start)
           ∙ difference-up width (num g (e .r .wanted)) (num g p) z (omega (arith, hi-le, lo-le, w .fits .span)) in
           subst Goal
-          (sym (answers ∙ pick-true (ltb (behind q (x .start .0)) half) _ _ (lt-ltb (behind q (x .start .0)) half (omega (arith, hi-le, lo-le, w .fits .span)))))
+          (sym (answers ∙ cond-true (ltb (behind q (x .start .0)) half) _ _ (lt-ltb (behind q (x .start .0)) half (omega (arith, hi-le, lo-le, w .fits .span)))))
           (record {
             moves =
                 record {
@@ -193,7 +192,7 @@ module _ (f g : Stream) (store : List ℕ) (e : End) (d : Chain) (q : KeptEnd) (
               → Came f g store e (item (replay na p n bt t) true lo hi) (discarded (replay-taken q store x)) hold (handed ++ [])
           go (yes u) =
               subst (λ (v : KeptEnd). Came f g store e (item (replay na p n bt t) true lo hi) v hold (handed ++ []))
-              (sym (pick-true (eqb (asked .discards + 1) patience) _ _ (eq-eqb (asked .discards + 1) patience u)))
+              (sym (cond-true (eqb (asked .discards + 1) patience) _ _ (eq-eqb (asked .discards + 1) patience u)))
               (record {
                 e′ = record { s = again (Step.nacked na (c .t)); r = Step.placed wait p n bt (e .r) };
                 does = ahead-wait m h (c .acks) enough;
@@ -203,7 +202,7 @@ module _ (f g : Stream) (store : List ℕ) (e : End) (d : Chain) (q : KeptEnd) (
               })
           go (no u) =
               subst (λ (v : KeptEnd). Came f g store e (item (replay na p n bt t) true lo hi) v hold (handed ++ []))
-              (sym (pick-false (eqb (asked .discards + 1) patience) _ _ (ne-eqb (asked .discards + 1) patience u)))
+              (sym (cond-false (eqb (asked .discards + 1) patience) _ _ (ne-eqb (asked .discards + 1) patience u)))
               (record {
                 e′ = record { s = Step.nacked na (c .t); r = Step.placed wait p n bt (e .r) };
                 does = ahead-wait m h (c .acks) more;
@@ -220,7 +219,7 @@ module _ (f g : Stream) (store : List ℕ) (e : End) (d : Chain) (q : KeptEnd) (
           ap₂ (difference width) (k .wanted) (s .start)
           ∙ difference-down width (num g (e .r .wanted)) (num g p) z (omega (arith, start-le, w .near, w .fits .span)) in
           subst Goal
-          (sym (answers ∙ pick-false (ltb (behind q (x .start .0)) half) _ _ (le-ltb (behind q (x .start .0)) half (omega (arith, start-le, w .near, w .fits .span)))))
+          (sym (answers ∙ cond-false (ltb (behind q (x .start .0)) half) _ _ (le-ltb (behind q (x .start .0)) half (omega (arith, start-le, w .near, w .fits .span)))))
           (record {
             moves =
                 subst (λ (v : KeptMode). Came f g store e (item (replay na p n bt t) true lo hi) (ahead-in v (replay-taken q store x)) hold (handed ++ []))

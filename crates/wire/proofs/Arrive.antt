@@ -1,7 +1,7 @@
 -- Receive on bytes does what the abstract receive does: for each flit that can stand next on a wire between two honest ends, the answer,
 -- and then the state, the hold and what is handed on. Assumes nothing.
 use mathlib.Core.Path.{_≡_, refl, ap, ap₂, sym, subst, _∙_}
-use mathlib.Core.Bool.{Bool, true, false, not}
+use mathlib.Core.Bool.{Bool, true, false, not, cond}
 use mathlib.Core.Logic.{_≢_}
 use mathlib.Core.List.{List, [], _∷_, _++_, append-nil}
 use Prim.Native.Nat.{ℕ, suc, _+_, _-_, _*_, _%_, _^_, _≤_, _<_}
@@ -14,14 +14,13 @@ use lib.Seq.{length-take-le}
 use Rattle.numbers.specs.Numbers.{width, after, difference}
 use Rattle.flits.specs.Bytes.{bytes}
 use Rattle.flits.specs.Fields.{fields-of, content, replay as replay-run, idle as idle-run}
-use Rattle.flits.specs.Flits.{bare-control}
+use Rattle.compose.specs.Flits.{bare-control}
 use Rattle.flits.specs.declared.Fields.{Fields}
 use Rattle.flits.proofs.Laws.{length-bytes}
-use Rattle.ends.specs.Choice.{pick}
 use Rattle.ends.specs.Ring.{put-at}
 use Rattle.ends.specs.declared.state.End.{End as KeptEnd}
 use Rattle.ends.specs.declared.state.Mode.the-variants.{Down}
-use Rattle.ends.proofs.Tests.{pick-true, pick-false}
+use Rattle.ends.proofs.Tests.{cond-true, cond-false}
 use Rattle.arrivals.specs.Arrivals.{holds, damaged, straddles, skips, behind, past-sent}
 use Rattle.answers.specs.Answers.{plain-answer, run-answer}
 use Rattle.answers.specs.declared.Answer.{Answer}
@@ -134,7 +133,7 @@ module _ (f g : Stream) (store : List ℕ) (e : End) (d : Chain) (q : KeptEnd) (
         let big : q .gathered .0 * 64 + 64 ≤ length hold = omega (arith, k .gathered, k .size) in
         let fr = put-front hold (q .gathered .0) (flit y) big (h .size) in
         subst (Followed f g store hold handed e (item (part v) ok lo hi) q (flit y))
-        (sym (pick-true (holds q) _ _ (Looks.holds-yes q (k .stalled ∙ b) (omega (arith, k .gathered, k .owes)))))
+        (sym (cond-true (holds q) _ _ (Looks.holds-yes q (k .stalled ∙ b) (omega (arith, k .gathered, k .owes)))))
         (record {
           moves =
               record {
@@ -170,7 +169,7 @@ module _ (f g : Stream) (store : List ℕ) (e : End) (d : Chain) (q : KeptEnd) (
         → Followed f g store hold handed e (item x false lo hi) q y (run-answer q (fields-of y) false)
     unfolding run-answer damaged end-after hold-after waiting
     on-spoiled x y lo hi m t =
-        subst (Followed f g store hold handed e (item x false lo hi) q y) (sym (pick-false (holds q) _ _ t))
+        subst (Followed f g store hold handed e (item x false lo hi) q y) (sym (cond-false (holds q) _ _ t))
         (record {
           moves =
               record {
@@ -205,7 +204,7 @@ module _ (f g : Stream) (store : List ℕ) (e : End) (d : Chain) (q : KeptEnd) (
         go : Dec (q .discards + 1 ≡ patience) → Came f g store e i (discarded q) hold (handed ++ [])
         go (yes h) =
             subst (λ (p : KeptEnd). Came f g store e i p hold (handed ++ []))
-            (sym (pick-true (eqb (q .discards + 1) patience) _ _ (eq-eqb (q .discards + 1) patience h)))
+            (sym (cond-true (eqb (q .discards + 1) patience) _ _ (eq-eqb (q .discards + 1) patience h)))
             (record {
               e′ = record { s = again (e .s); r = e .r };
               does = discards m enough;
@@ -228,7 +227,7 @@ module _ (f g : Stream) (store : List ℕ) (e : End) (d : Chain) (q : KeptEnd) (
             })
         go (no h) =
             subst (λ (p : KeptEnd). Came f g store e i p hold (handed ++ []))
-            (sym (pick-false (eqb (q .discards + 1) patience) _ _ (ne-eqb (q .discards + 1) patience h)))
+            (sym (cond-false (eqb (q .discards + 1) patience) _ _ (ne-eqb (q .discards + 1) patience h)))
             (record {
               e′ = record { s = e .s; r = e .r };
               does = discards m more;
@@ -267,13 +266,13 @@ module _ (f g : Stream) (store : List ℕ) (e : End) (d : Chain) (q : KeptEnd) (
         let sm = c .same in
         subst (Followed f g store hold handed e (item (idle a b n) true lo hi) q (flit y))
         (sym
-        (pick-false (holds q) _ _ (Looks.holds-rest q (none-gathered (z .0)) (rest-bit (z .1)))
-        ∙ pick-false (damaged q x true) _ _ (Looks.damaged-idle q x (s .run) (s .owes ∙ o ∙ sym (k .owes)) cl)
-        ∙ pick-false (skips x) _ _ (Looks.skips-known q x 15 (s .run) refl)
-        ∙ pick-false (eqb (x .run .0) replay-run) _ _ (ap (λ (t : ℕ). eqb t replay-run) (s .run))
-        ∙ pick-false (x .short) _ _ (s .short)
-        ∙ pick-false (past-sent q (x .acks .0)) _ _ (ap (past-sent q) (s .acks) ∙ in-order a (w .own) le)
-        ∙ pick-true (eqb (x .run .0) idle-run) _ _ (ap (λ (t : ℕ). eqb t idle-run) (s .run))))
+        (cond-false (holds q) _ _ (Looks.holds-rest q (none-gathered (z .0)) (rest-bit (z .1)))
+        ∙ cond-false (damaged q x true) _ _ (Looks.damaged-idle q x (s .run) (s .owes ∙ o ∙ sym (k .owes)) cl)
+        ∙ cond-false (skips x) _ _ (Looks.skips-known q x 15 (s .run) refl)
+        ∙ cond-false (eqb (x .run .0) replay-run) _ _ (ap (λ (t : ℕ). eqb t replay-run) (s .run))
+        ∙ cond-false (x .short) _ _ (s .short)
+        ∙ cond-false (past-sent q (x .acks .0)) _ _ (ap (past-sent q) (s .acks) ∙ in-order a (w .own) le)
+        ∙ cond-true (eqb (x .run .0) idle-run) _ _ (ap (λ (t : ℕ). eqb t idle-run) (s .run))))
         (record {
           moves =
               record {
@@ -360,17 +359,17 @@ module _ (f g : Stream) (store : List ℕ) (e : End) (d : Chain) (q : KeptEnd) (
         abbrev Goal : Answer → Type 0
         Goal A = Followed f g store hold handed e (item (control b n a bt) true lo hi) q (flit y) A
 
-        admits : straddles q x ≡ false → run-answer q x true ≡ pick (not (eqb (q .position .0) (q .wanted .0))) answer.Duplicate
-            (pick (ltb 1024 (q .untold .0 + (q .gathered .0 + 1))) (answer.Down 4) (answer.Delivered (q .gathered)))
+        admits : straddles q x ≡ false → run-answer q x true ≡ cond (not (eqb (q .position .0) (q .wanted .0))) answer.Duplicate
+            (cond (ltb 1024 (q .untold .0 + (q .gathered .0 + 1))) (answer.Down 4) (answer.Delivered (q .gathered)))
         unfolding run-answer plain-answer
         admits sd =
-            pick-false (holds q) _ _ (Looks.holds-full q full)
-            ∙ pick-false (damaged q x true) _ _ (Looks.damaged-control q x (k .stalled ∙ bit) run-le sd)
-            ∙ pick-false (skips x) _ _ (Looks.skips-control q x run-le)
-            ∙ pick-false (eqb (x .run .0) replay-run) _ _ (ne-eqb (x .run .0) replay-run (λ z. omega (arith, run-le)))
-            ∙ pick-false (x .short) _ _ (s .short)
-            ∙ pick-false (past-sent q (x .acks .0)) _ _ (ap (past-sent q) (s .acks) ∙ in-order a (w .own) le)
-            ∙ pick-false (eqb (x .run .0) idle-run) _ _ (ne-eqb (x .run .0) idle-run (λ z. omega (arith, run-le)))
+            cond-false (holds q) _ _ (Looks.holds-full q full)
+            ∙ cond-false (damaged q x true) _ _ (Looks.damaged-control q x (k .stalled ∙ bit) run-le sd)
+            ∙ cond-false (skips x) _ _ (Looks.skips-control q x run-le)
+            ∙ cond-false (eqb (x .run .0) replay-run) _ _ (ne-eqb (x .run .0) replay-run (λ z. omega (arith, run-le)))
+            ∙ cond-false (x .short) _ _ (s .short)
+            ∙ cond-false (past-sent q (x .acks .0)) _ _ (ap (past-sent q) (s .acks) ∙ in-order a (w .own) le)
+            ∙ cond-false (eqb (x .run .0) idle-run) _ _ (ne-eqb (x .run .0) idle-run (λ z. omega (arith, run-le)))
 
         delivers-it : e .r .position ≡ e .r .wanted → Goal (run-answer q x true)
         unfolding end-after hold-after delivered closed
@@ -389,8 +388,8 @@ module _ (f g : Stream) (store : List ℕ) (e : End) (d : Chain) (q : KeptEnd) (
             subst Goal
             (sym
             (admits (Looks.straddles-none q x (omega (arith, back-by)))
-            ∙ pick-false (not (eqb (q .position .0) (q .wanted .0))) _ _ (ap not (eq-eqb (q .position .0) (q .wanted .0) at))
-            ∙ pick-false (ltb 1024 (q .untold .0 + (q .gathered .0 + 1))) _ _ (le-ltb 1024 (q .untold .0 + (q .gathered .0 + 1)) ov)))
+            ∙ cond-false (not (eqb (q .position .0) (q .wanted .0))) _ _ (ap not (eq-eqb (q .position .0) (q .wanted .0) at))
+            ∙ cond-false (ltb 1024 (q .untold .0 + (q .gathered .0 + 1))) _ _ (le-ltb 1024 (q .untold .0 + (q .gathered .0 + 1)) ov)))
             (record {
               moves =
                   record {
@@ -428,7 +427,7 @@ module _ (f g : Stream) (store : List ℕ) (e : End) (d : Chain) (q : KeptEnd) (
             subst Goal
             (sym
             (admits (Looks.straddles-before q x (omega (arith, back-by, k .gathered, owed-here)))
-            ∙ pick-true (not (eqb (q .position .0) (q .wanted .0))) _ _
+            ∙ cond-true (not (eqb (q .position .0) (q .wanted .0))) _ _
             (ap not (ne-eqb (q .position .0) (q .wanted .0) (λ z. far (sym (k .position) ∙ z ∙ k .wanted))))))
             (record {
               moves =

@@ -13,7 +13,7 @@ use Rattle.ends.specs.Update.{with-acknowledged, with-pending}
 use Rattle.ends.specs.Ring.{flit-at, place}
 use Rattle.ends.specs.Refusals.{cursor-at, acknowledged-at}
 use Rattle.ends.specs.declared.state.End.{End}
-use Rattle.ends.proofs.Tests.{pick-true, pick-false}
+use Rattle.ends.proofs.Tests.{cond-true, cond-false}
 use Rattle.acknowledge.specs.Acknowledge.{freed-by, freed, sent-anew, acknowledged}
 use Rattle.link.specs.Stream.{Stream, owed, num}
 use Rattle.link.specs.End.{Sender}
@@ -167,7 +167,7 @@ module _ (f : Stream) (store : List ℕ) (s : Sender) (q : End) (l : Local most 
     keeps-it c =
         let z : num f o ≤ num f (s .cursor) = num-le f o (s .cursor) c in
         let t : ltb (cursor-at q) (freed-by q store n) ≡ false = le-ltb (cursor-at q) (freed-by q store n) (omega (arith, cursor-off, frees)) in
-        subst goal (sym (pick-false (ltb (cursor-at q) (freed-by q store n)) _ _ t))
+        subst goal (sym (cond-false (ltb (cursor-at q) (freed-by q store n)) _ _ t))
         (subst (λ (m : ℕ). goal (freed (with-acknowledged (after width (q .acknowledged .0) n) q) store m)) (sym frees)
         (record {
           t = Step.freed (s .acked + n) o s;
@@ -182,7 +182,7 @@ module _ (f : Stream) (store : List ℕ) (s : Sender) (q : End) (l : Local most 
         let z : num f (s .cursor) < num f o = num-lt f (s .cursor) o c in
         let y : num f (s .oldest) ≤ num f (s .cursor) = num-le f (s .oldest) (s .cursor) (l .begun) in
         let t : ltb (cursor-at q) (freed-by q store n) ≡ true = lt-ltb (cursor-at q) (freed-by q store n) (omega (arith, cursor-off, frees)) in
-        subst goal (sym (pick-true (ltb (cursor-at q) (freed-by q store n)) _ _ t))
+        subst goal (sym (cond-true (ltb (cursor-at q) (freed-by q store n)) _ _ t))
         (subst (λ (m : ℕ). goal (sent-anew true (freed (with-acknowledged (after width (q .acknowledged .0) n) q) store m))) (sym frees)
         (record {
           t = Step.passed (s .acked + n) o s;

@@ -1,6 +1,6 @@
 -- Send on bytes does what the abstract send does, whatever becomes of its units on the way. Assumes nothing.
 use mathlib.Core.Path.{_≡_, refl, ap, ap₂, sym, subst, _∙_}
-use mathlib.Core.Bool.{Bool, true, false, true≢false}
+use mathlib.Core.Bool.{Bool, true, false, true≢false, cond}
 use mathlib.Core.Logic.{_≢_}
 use mathlib.Core.List.{List, [], _∷_, _++_, append-nil}
 use Prim.Native.Nat.{ℕ, zero, suc, _+_, _-_, _*_, _/_, _^_, _≤_, _<_, max}
@@ -15,15 +15,14 @@ use Rattle.crc.specs.Unit.{right}
 use Rattle.crc.specs.Seal.{sealed}
 use Rattle.flits.specs.Bytes.{read}
 use Rattle.flits.specs.Fields.{fields-of, content, run-length}
-use Rattle.flits.specs.Flits.{control-told, idle-flit, replay-flit}
-use Rattle.flits.proofs.RoundTrip.{idle-read, replay-read}
-use Rattle.ends.specs.Choice.{pick}
+use Rattle.compose.specs.Flits.{control-told, idle-flit, replay-flit}
+use Rattle.compose.proofs.RoundTrip.{idle-read, replay-read}
 use Rattle.ends.specs.Ring.{flit-at, place, stored, walked}
 use Rattle.ends.specs.State.{is-wait}
 use Rattle.ends.specs.Refusals.{cursor-at, sent-at, previous-run}
 use Rattle.ends.specs.Update.{with-untold, with-pending}
 use Rattle.ends.specs.declared.state.End.{End as KeptEnd}
-use Rattle.ends.proofs.Tests.{pick-true, pick-false, pick-either}
+use Rattle.ends.proofs.Tests.{cond-true, cond-false, cond-either}
 use Rattle.burst.specs.Burst as sending
 use Rattle.units.specs.Units.{stored-flits, control-at-cursor, unit-sent}
 use Rattle.burst.specs.Burst.{fallen, replay-sent, unit-at-cursor, burst, burst-flits, past-unit}
@@ -58,21 +57,21 @@ pub units-two : (x y : List ℕ) → length x ≡ 64 → 8 < fields-of x .run .0
 unfolding units-of
 units-two x y l r h =
     let t = take-at x y 64 l in
-    pick-true (ltb 8 (fields-of (take 64 (x ++ y)) .run .0)) _ _ (ap (λ (z : List ℕ). ltb 8 (fields-of z .run .0)) t ∙ lt-ltb 8 (fields-of x .run .0) r)
+    cond-true (ltb 8 (fields-of (take 64 (x ++ y)) .run .0)) _ _ (ap (λ (z : List ℕ). ltb 8 (fields-of z .run .0)) t ∙ lt-ltb 8 (fields-of x .run .0) r)
     ∙ ap₂ (λ (p q : List (List ℕ)). p ++ q) (ap one t ∙ one-of x (omega arith)) (ap one (drop-at x y 64 l) ∙ one-of y h)
 
 pub units-dl : (x : List ℕ) → length x ≡ 64 → 8 < fields-of x .run .0 → units-of x ≡ x ∷ []
 unfolding units-of
 units-dl x l r =
     let t = take-all 64 x (omega arith) in
-    pick-true (ltb 8 (fields-of (take 64 x) .run .0)) _ _ (ap (λ (z : List ℕ). ltb 8 (fields-of z .run .0)) t ∙ lt-ltb 8 (fields-of x .run .0) r)
+    cond-true (ltb 8 (fields-of (take 64 x) .run .0)) _ _ (ap (λ (z : List ℕ). ltb 8 (fields-of z .run .0)) t ∙ lt-ltb 8 (fields-of x .run .0) r)
     ∙ ap₂ (λ (p q : List (List ℕ)). p ++ q) (ap one t ∙ one-of x (omega arith)) (one-none (drop 64 x) (let z : length x ≤ 64 = omega arith in ap length (drop-of-length-le x {i = 64} z)))
 
 pub units-tl : (x : List ℕ) → length x ≡ 64 → fields-of x .run .0 ≤ 8 → units-of x ≡ x ∷ []
 unfolding units-of
 units-tl x l r =
     let t = take-all 64 x (omega arith) in
-    pick-false (ltb 8 (fields-of (take 64 x) .run .0)) _ _ (ap (λ (z : List ℕ). ltb 8 (fields-of z .run .0)) t ∙ le-ltb 8 (fields-of x .run .0) r)
+    cond-false (ltb 8 (fields-of (take 64 x) .run .0)) _ _ (ap (λ (z : List ℕ). ltb 8 (fields-of z .run .0)) t ∙ le-ltb 8 (fields-of x .run .0) r)
     ∙ one-of x (omega arith)
 
 -- ---- small facts
@@ -87,10 +86,10 @@ wait-test wait = refl
 wait-test down = refl
 
 pub carried-le : (u : ℕ) → sending.carried u ≤ u
-carried-le u = pick-either (λ (n : ℕ). n ≤ u) (leb u 31) u 31 (λ h. omega arith) (λ h. let z = leb-false u 31 h in omega arith)
+carried-le u = cond-either (λ (n : ℕ). n ≤ u) (leb u 31) u 31 (λ h. omega arith) (λ h. let z = leb-false u 31 h in omega arith)
 
 pub carried-31 : (u : ℕ) → sending.carried u ≤ 31
-carried-31 u = pick-either (λ (n : ℕ). n ≤ 31) (leb u 31) u 31 (λ h. leb-true u 31 h) (λ h. omega arith)
+carried-31 u = cond-either (λ (n : ℕ). n ≤ 31) (leb u 31) u 31 (λ h. leb-true u 31 h) (λ h. omega arith)
 
 -- the flits that are stored in a row
 row : (places first from : ℕ) (store : List ℕ) (xs : List (List ℕ)) (n : ℕ) → n ≤ length xs
@@ -332,18 +331,18 @@ module _ (Ok : Bool → Type 0) (f g : Stream) (store hold : List ℕ) (handed :
           at-s = at-sent f store (e .s) q l h fo
 
           go : Dec (e .s .sent < suc (e .s .cursor))
-              → pick (ltb (sent-at q) (cursor-at q + (n + 1))) (Rattle.numbers.specs.Numbers.after width (q .cursor .0) (n + 1)) (q .sent .0)
+              → cond (ltb (sent-at q) (cursor-at q + (n + 1))) (Rattle.numbers.specs.Numbers.after width (q .cursor .0) (n + 1)) (q .sent .0)
               ≡ wrap (num f (max (e .s .sent) (suc (e .s .cursor))))
           go (yes c) =
               let d : e .s .sent ≡ e .s .cursor = omega (arith, l .behind) in
               let v : num f (e .s .sent) ≡ num f (e .s .cursor) = ap (num f) d in
               let m : max (e .s .sent) (suc (e .s .cursor)) ≡ suc (e .s .cursor) = omega arith in
-              pick-true (ltb (sent-at q) (cursor-at q + (n + 1))) _ _ (lt-ltb (sent-at q) (cursor-at q + (n + 1)) (omega (arith, at-s, at-c)))
+              cond-true (ltb (sent-at q) (cursor-at q + (n + 1))) _ _ (lt-ltb (sent-at q) (cursor-at q + (n + 1)) (omega (arith, at-s, at-c)))
               ∙ past ∙ ap (λ (a : ℕ). wrap (num f a)) (sym m)
           go (no c) =
               let v : num f (suc (e .s .cursor)) ≤ num f (e .s .sent) = num-le f (suc (e .s .cursor)) (e .s .sent) (omega arith) in
               let m : max (e .s .sent) (suc (e .s .cursor)) ≡ e .s .sent = omega arith in
-              pick-false (ltb (sent-at q) (cursor-at q + (n + 1))) _ _ (le-ltb (sent-at q) (cursor-at q + (n + 1)) (omega (arith, at-s, at-c, low)))
+              cond-false (ltb (sent-at q) (cursor-at q + (n + 1))) _ _ (le-ltb (sent-at q) (cursor-at q + (n + 1)) (omega (arith, at-s, at-c, low)))
               ∙ h .sent ∙ ap (λ (a : ℕ). wrap (num f a)) (sym m)
 
       -- what arrives for it
@@ -453,11 +452,11 @@ module _ (Ok : Bool → Type 0) (f g : Stream) (store hold : List ℕ) (handed :
     emitted flits us count p u s k′ = record { size = s; follows = subst (λ (ws : List (List ℕ)). Follows ws p) (sym u) k′ }
 
     -- a step of the choice, in the three things that go by it
-    chosen-yes : (b : Bool) (x x′ : List ℕ) (c c′ : ℕ) (p p′ : KeptEnd) → b ≡ true → Emitted x c p → Emitted (pick b x x′) (pick b c c′) (pick b p p′)
+    chosen-yes : (b : Bool) (x x′ : List ℕ) (c c′ : ℕ) (p p′ : KeptEnd) → b ≡ true → Emitted x c p → Emitted (cond b x x′) (cond b c c′) (cond b p p′)
     chosen-yes true x x′ c c′ p p′ h k′ = k′
     chosen-yes false x x′ c c′ p p′ h k′ = absurd (true≢false (sym h))
 
-    chosen-no : (b : Bool) (x x′ : List ℕ) (c c′ : ℕ) (p p′ : KeptEnd) → b ≡ false → Emitted x′ c′ p′ → Emitted (pick b x x′) (pick b c c′) (pick b p p′)
+    chosen-no : (b : Bool) (x x′ : List ℕ) (c c′ : ℕ) (p p′ : KeptEnd) → b ≡ false → Emitted x′ c′ p′ → Emitted (cond b x x′) (cond b c c′) (cond b p p′)
     chosen-no true x x′ c c′ p p′ h k′ = absurd (true≢false h)
     chosen-no false x x′ c c′ p p′ h k′ = k′
 
@@ -521,26 +520,26 @@ module _ (Ok : Bool → Type 0) (f g : Stream) (store hold : List ℕ) (handed :
 
     case-unit : e .s .pending ≡ false → e .s .cursor < e .s .accepted
         → Emitted
-        (pick (ltb 0 n) (idle-flit (sending.carried (q .untold .0)) false n ++ unit-sent q store n (sending.carried (fallen (q .untold .0))))
+        (cond (ltb 0 n) (idle-flit (sending.carried (q .untold .0)) false n ++ unit-sent q store n (sending.carried (fallen (q .untold .0))))
         (unit-sent q store n (sending.carried (q .untold .0))))
-        (pick (ltb 0 n) (n + 2) 1) (with-untold (pick (ltb 0 n) (fallen (fallen (q .untold .0))) (fallen (q .untold .0))) (past-unit q n))
+        (cond (ltb 0 n) (n + 2) 1) (with-untold (cond (ltb 0 n) (fallen (fallen (q .untold .0))) (fallen (q .untold .0))) (past-unit q n))
     case-unit p room = go (decLt 0 n)
       where
         mid-yes : (b : Bool) (x x′ : List ℕ) (c c′ m m′ : ℕ) → b ≡ true → Emitted x c (with-untold m (past-unit q n))
-            → Emitted (pick b x x′) (pick b c c′) (with-untold (pick b m m′) (past-unit q n))
+            → Emitted (cond b x x′) (cond b c c′) (with-untold (cond b m m′) (past-unit q n))
         mid-yes true x x′ c c′ m m′ y k′ = k′
         mid-yes false x x′ c c′ m m′ y k′ = absurd (true≢false (sym y))
 
         mid-no : (b : Bool) (x x′ : List ℕ) (c c′ m m′ : ℕ) → b ≡ false → Emitted x′ c′ (with-untold m′ (past-unit q n))
-            → Emitted (pick b x x′) (pick b c c′) (with-untold (pick b m m′) (past-unit q n))
+            → Emitted (cond b x x′) (cond b c c′) (with-untold (cond b m m′) (past-unit q n))
         mid-no true x x′ c c′ m m′ y k′ = absurd (true≢false y)
         mid-no false x x′ c c′ m m′ y k′ = k′
 
         go : Dec (0 < n)
             → Emitted
-            (pick (ltb 0 n) (idle-flit (sending.carried (q .untold .0)) false n ++ unit-sent q store n (sending.carried (fallen (q .untold .0))))
+            (cond (ltb 0 n) (idle-flit (sending.carried (q .untold .0)) false n ++ unit-sent q store n (sending.carried (fallen (q .untold .0))))
             (unit-sent q store n (sending.carried (q .untold .0))))
-            (pick (ltb 0 n) (n + 2) 1) (with-untold (pick (ltb 0 n) (fallen (fallen (q .untold .0))) (fallen (q .untold .0))) (past-unit q n))
+            (cond (ltb 0 n) (n + 2) 1) (with-untold (cond (ltb 0 n) (fallen (fallen (q .untold .0))) (fallen (q .untold .0))) (past-unit q n))
         go (yes o) = mid-yes (ltb 0 n) _ _ _ _ _ _ (lt-ltb 0 n o) (case-burst p room o)
         go (no o) = mid-no (ltb 0 n) _ _ _ _ _ _ (le-ltb 0 n (omega arith)) (case-alone p room (omega arith))
 

@@ -1,7 +1,7 @@
 -- The whole of receive: whatever flit stands next on the wire, in mode run and in mode wait, receive on bytes does what the abstract
 -- receive does. Assumes nothing.
 use mathlib.Core.Path.{_≡_, refl, ap, sym, subst, _∙_}
-use mathlib.Core.Bool.{Bool, true, false, _&&_}
+use mathlib.Core.Bool.{Bool, true, false, _&&_, cond}
 use mathlib.Core.List.{List, _++_}
 use Prim.Native.Nat.{ℕ, _*_, _≤_}
 use native.Mathlib.Omega.{arith}
@@ -9,11 +9,10 @@ use lib.Dec.{eqb}
 use lib.ListN.{take}
 use Rattle.crc.specs.Unit.{right}
 use Rattle.flits.specs.Fields.{fields-of, replay as replay-run, idle as idle-run}
-use Rattle.ends.specs.Choice.{pick}
 use Rattle.ends.specs.State.{is-run}
 use Rattle.ends.specs.declared.state.End.{End as KeptEnd}
 use Rattle.ends.specs.declared.state.Mode.{Mode as KeptMode}
-use Rattle.ends.proofs.Tests.{and-true, and-false-l, pick-true, pick-false}
+use Rattle.ends.proofs.Tests.{and-true, and-false-l, cond-true, cond-false}
 use Rattle.arrivals.specs.Arrivals.{holds, closes, checked, damaged, skips}
 use Rattle.answers.specs.Answers.{replay-answer, run-answer, wait-answer, mode-answer}
 use Rattle.answers.specs.declared.Answer.{Answer}
@@ -48,10 +47,10 @@ module _ (f g : Stream) (store : List ℕ) (e : End) (d : Chain) (q : KeptEnd) (
 
     -- what is checked, by mode, and in mode run
     abbrev looked-in : KeptMode → List ℕ → List ℕ
-    looked-in m x = pick (is-run m && closes q) (take (q .gathered .0 * 64) hold ++ x) x
+    looked-in m x = cond (is-run m && closes q) (take (q .gathered .0 * 64) hold ++ x) x
 
     abbrev looked : List ℕ → List ℕ
-    looked x = pick (closes q) (take (q .gathered .0 * 64) hold ++ x) x
+    looked x = cond (closes q) (take (q .gathered .0 * 64) hold ++ x) x
 
     runs : Head g d e → e .r .mode ≡ run → Runs g d (e .s .acked) (e .r)
     runs = Arrive.runs f g store e d q hold handed fo st k small
@@ -67,7 +66,7 @@ module _ (f g : Stream) (store : List ℕ) (e : End) (d : Chain) (q : KeptEnd) (
     alone-closes z = Looks.closes-rest q (Arrive.rest-bit f g store e d q hold handed fo st k small (z .1))
 
     alone-looked : (x : List ℕ) → Rattle.link.specs.Step.Alone (e .r) → looked x ≡ x
-    alone-looked x z = pick-false (closes q) _ _ (alone-closes z)
+    alone-looked x z = cond-false (closes q) _ _ (alone-closes z)
 
     -- a closing flit
     module _ (b : List ℕ) (n a lo hi : ℕ) (bt ok : Bool) (y : Flight) (w : Given most f g e d (item (control b n a bt) ok lo hi)) (m : e .r .mode ≡ run)
@@ -90,10 +89,10 @@ module _ (f g : Stream) (store : List ℕ) (e : End) (d : Chain) (q : KeptEnd) (
     to-replay : (x : List ℕ) → fields-of x .run .0 ≡ replay-run → Rattle.link.specs.Step.Alone (e .r) → run-answer q (fields-of x) true ≡ replay-answer q (fields-of x)
     unfolding run-answer
     to-replay x ru z =
-        pick-false (holds q) _ _ (alone-holds z)
-        ∙ pick-false (damaged q (fields-of x) true) _ _ (Looks.damaged-replay q (fields-of x) ru (alone-closes z))
-        ∙ pick-false (skips (fields-of x)) _ _ (Looks.skips-known q (fields-of x) 10 ru refl)
-        ∙ pick-true (eqb (fields-of x .run .0) replay-run) _ _ (ap (λ (v : ℕ). eqb v replay-run) ru)
+        cond-false (holds q) _ _ (alone-holds z)
+        ∙ cond-false (damaged q (fields-of x) true) _ _ (Looks.damaged-replay q (fields-of x) ru (alone-closes z))
+        ∙ cond-false (skips (fields-of x)) _ _ (Looks.skips-known q (fields-of x) 10 ru refl)
+        ∙ cond-true (eqb (fields-of x .run .0) replay-run) _ _ (ap (λ (v : ℕ). eqb v replay-run) ru)
 
     run-follows : (i : Flit) (ok : Bool) (lo hi : ℕ) (y : Flight) → Given most f g e d (item i ok lo hi) → e .r .mode ≡ run → Reads g (d .got) i ok y
         → Goal (item i ok lo hi) (flit y) (run-answer q (fields-of (flit y)) (right (looked (flit y))))
@@ -127,7 +126,7 @@ module _ (f g : Stream) (store : List ℕ) (e : End) (d : Chain) (q : KeptEnd) (
     plain-skips : (i : Item) (x : List ℕ) → e .r .mode ≡ wait → reads-replay x ≡ false → Goal i x (wait-answer q (fields-of x) (right x))
     unfolding wait-answer reads-replay
     plain-skips i x m h =
-        subst (Goal i x) (sym (pick-false (right x && eqb (fields-of x .run .0) replay-run) _ _ h)) (Arrive.on-skip f g store e d q hold handed fo st k small i x m)
+        subst (Goal i x) (sym (cond-false (right x && eqb (fields-of x .run .0) replay-run) _ _ h)) (Arrive.on-skip f g store e d q hold handed fo st k small i x m)
 
     not-right : (x : List ℕ) → right x ≡ false → reads-replay x ≡ false
     unfolding reads-replay
@@ -148,7 +147,7 @@ module _ (f g : Stream) (store : List ℕ) (e : End) (d : Chain) (q : KeptEnd) (
         let s = h .says refl in
         subst (Goal (item (replay na p n bt t) true lo hi) (flit y))
         (sym
-        (pick-true (right (flit y) && eqb (fields-of (flit y) .run .0) replay-run) _ _
+        (cond-true (right (flit y) && eqb (fields-of (flit y) .run .0) replay-run) _ _
         (and-true (right (flit y)) (eqb (fields-of (flit y) .run .0) replay-run) (h .right-is) (ap (λ (v : ℕ). eqb v replay-run) (s .run)))))
         (Anew.on-replay f g store e d q hold handed fo st k small y p n t lo hi na bt w s wait (λ v. wait-down v) m)
     wait-follows (replay na p n bt t) false lo hi y w m h =

@@ -20,7 +20,7 @@ use Rattle.ends.specs.declared.state.End.{End as KeptEnd}
 use Rattle.ends.specs.declared.state.Refusal.the-variants as refusal
 use Rattle.ends.specs.declared.state.Verdict.{Verdict}
 use Rattle.ends.specs.declared.state.Verdict.the-variants.{Refused, Admitted}
-use Rattle.ends.proofs.Tests.{and-true, pick-true, pick-false}
+use Rattle.ends.proofs.Tests.{and-true, cond-true, cond-false}
 use Rattle.accept.specs.Accept as accept
 use Rattle.burst.specs.Burst as sending
 use Rattle.send.specs.Send as send
@@ -410,17 +410,17 @@ module _ (x y : Bool) (f g : Stream) (s : System) (j : Joint x y f g s) where
     pub out-short : length output < 640 → send.verdict q store (length output) ≡ Refused refusal.Out
     unfolding send.verdict
     out-short h =
-        pick-false (not (store-is q (length store))) _ _ (ap not (fine .store-ok))
-        ∙ pick-false (not (sound q store)) _ _ (ap not (fine .state-ok))
-        ∙ pick-true (ltb (length output) 640) _ _ (lt-ltb (length output) 640 h)
+        cond-false (not (store-is q (length store))) _ _ (ap not (fine .store-ok))
+        ∙ cond-false (not (sound q store)) _ _ (ap not (fine .state-ok))
+        ∙ cond-true (ltb (length output) 640) _ _ (lt-ltb (length output) 640 h)
 
     pub out-long : 640 ≤ length output → send.verdict q store (length output) ≡ Admitted
     unfolding send.verdict
     out-long h =
-        pick-false (not (store-is q (length store))) _ _ (ap not (fine .store-ok))
-        ∙ pick-false (not (sound q store)) _ _ (ap not (fine .state-ok))
-        ∙ pick-false (ltb (length output) 640) _ _ (le-ltb (length output) 640 h)
-        ∙ pick-false (is-down (q .mode)) _ _ (fine .up)
+        cond-false (not (store-is q (length store))) _ _ (ap not (fine .store-ok))
+        ∙ cond-false (not (sound q store)) _ _ (ap not (fine .state-ok))
+        ∙ cond-false (ltb (length output) 640) _ _ (le-ltb (length output) 640 h)
+        ∙ cond-false (is-down (q .mode)) _ _ (fine .up)
 
     pub by-sends : ArriveAll Arrives (units-of (Rattle.wire.specs.System.flits-sent errors information output (s .a))) arrivals
         → Oks (kind x) (passing (units-of (Rattle.wire.specs.System.flits-sent errors information output (s .a))) arrivals)
@@ -463,11 +463,11 @@ module _ (x y : Bool) (f g : Stream) (s : System) (j : Joint x y f g s) where
       → receive.verdict (s .a .end) (s .a .store) (length hold) (length flit) ≡ Admitted
   unfolding receive.verdict
   in-long hold flit h k =
-      pick-false (not (store-is (s .a .end) (length (s .a .store)) && eqb (length hold) 576)) _ _
+      cond-false (not (store-is (s .a .end) (length (s .a .store)) && eqb (length hold) 576)) _ _
       (ap not (and-true (store-is (s .a .end) (length (s .a .store))) (eqb (length hold) 576) (fine .store-ok) (eq-eqb (length hold) 576 h)))
-      ∙ pick-false (not (sound (s .a .end) (s .a .store))) _ _ (ap not (fine .state-ok))
-      ∙ pick-false (not (eqb (length flit) 64)) _ _ (ap not (eq-eqb (length flit) 64 k))
-      ∙ pick-false (is-down (s .a .end .mode)) _ _ (fine .up)
+      ∙ cond-false (not (sound (s .a .end) (s .a .store))) _ _ (ap not (fine .state-ok))
+      ∙ cond-false (not (eqb (length flit) 64)) _ _ (ap not (eq-eqb (length flit) 64 k))
+      ∙ cond-false (is-down (s .a .end .mode)) _ _ (fine .up)
 
   -- the answer to a flit
   pub answer-is : (hold flit : List ℕ) → length hold ≡ 576 → length flit ≡ 64
@@ -613,5 +613,5 @@ module _ (x y : Bool) (f g : Stream) (s : System) (j : Joint x y f g s) where
   by-receives = go (on-the-way (s .ba)) refl
     where
       go : (b : Bool) → on-the-way (s .ba) ≡ b → Joint x y f g (calls receives s)
-      go true t = subst (Joint x y f g) (sym (pick-true (on-the-way (s .ba)) _ s t)) (took (next t))
-      go false t = subst (Joint x y f g) (sym (pick-false (on-the-way (s .ba)) _ s t)) j
+      go true t = subst (Joint x y f g) (sym (cond-true (on-the-way (s .ba)) _ s t)) (took (next t))
+      go false t = subst (Joint x y f g) (sym (cond-false (on-the-way (s .ba)) _ s t)) j

@@ -1,6 +1,6 @@
 -- How a receiver looks at the next flit, and the tests of 01, Receive 1 to 3, where two honest ends stand. Assumes nothing.
 use mathlib.Core.Path.{_≡_, refl, ap, sym, _∙_}
-use mathlib.Core.Bool.{Bool, true, false, not, _&&_, _||_}
+use mathlib.Core.Bool.{Bool, true, false, not, _&&_, _||_, cond}
 use mathlib.Core.List.{List, [], _++_}
 use Prim.Native.Nat.{ℕ, zero, suc, _+_, _*_, _≤_, _<_}
 use native.Mathlib.Omega.{arith}
@@ -9,9 +9,8 @@ use lib.Dec.{ltb, leb, eqb}
 use lib.ListN.{take}
 use Rattle.flits.specs.Fields.{replay, idle}
 use Rattle.flits.specs.declared.Fields.{Fields}
-use Rattle.ends.specs.Choice.{pick}
 use Rattle.ends.specs.declared.state.End.{End}
-use Rattle.ends.proofs.Tests.{and-true, and-false-l, pick-true, pick-false}
+use Rattle.ends.proofs.Tests.{and-true, and-false-l, cond-true, cond-false}
 use Rattle.arrivals.specs.Arrivals.{holds, closes, run-wrong, stall-wrong, straddles, damaged, skips, behind}
 use Rattle.link.specs.Stream.{some}
 use Rattle.wire.proofs.Tests.{and-false-r}
@@ -54,21 +53,21 @@ module _ (q : End) where
 
   -- a closing flit is checked with its data
   pub checked-full : (hold data′ flit : List ℕ) → q .stalled ≡ false → q .gathered .0 ≡ q .owed .0 → take (q .gathered .0 * 64) hold ≡ data′
-      → pick (closes q) (take (q .gathered .0 * 64) hold ++ flit) flit ≡ data′ ++ flit
+      → cond (closes q) (take (q .gathered .0 * 64) hold ++ flit) flit ≡ data′ ++ flit
   unfolding closes
   checked-full hold data′ flit b h e = go (q .owed .0) refl
     where
       go : (n : ℕ) → q .owed .0 ≡ n
-          → pick (not (q .stalled) && ltb 0 (q .owed .0) && eqb (q .gathered .0) (q .owed .0)) (take (q .gathered .0 * 64) hold ++ flit) flit ≡ data′ ++ flit
+          → cond (not (q .stalled) && ltb 0 (q .owed .0) && eqb (q .gathered .0) (q .owed .0)) (take (q .gathered .0 * 64) hold ++ flit) flit ≡ data′ ++ flit
       go zero z =
           let n : q .gathered .0 ≡ 0 = omega arith in
           let d : data′ ≡ [] = sym e ∙ ap (λ (m : ℕ). take (m * 64) hold) n in
-          pick-false (not (q .stalled) && ltb 0 (q .owed .0) && eqb (q .gathered .0) (q .owed .0)) _ _
+          cond-false (not (q .stalled) && ltb 0 (q .owed .0) && eqb (q .gathered .0) (q .owed .0)) _ _
           (and-false-l (not (q .stalled) && ltb 0 (q .owed .0)) (eqb (q .gathered .0) (q .owed .0))
           (ap (λ (t : Bool). not (q .stalled) && t) (le-ltb 0 (q .owed .0) (omega arith)) ∙ and-false-r (not (q .stalled))))
           ∙ ap (λ (l : List ℕ). l ++ flit) (sym d)
       go (suc n) z =
-          pick-true (not (q .stalled) && ltb 0 (q .owed .0) && eqb (q .gathered .0) (q .owed .0)) _ _
+          cond-true (not (q .stalled) && ltb 0 (q .owed .0) && eqb (q .gathered .0) (q .owed .0)) _ _
           (and-true (not (q .stalled) && ltb 0 (q .owed .0)) (eqb (q .gathered .0) (q .owed .0))
           (and-true (not (q .stalled)) (ltb 0 (q .owed .0)) (ap not b) (lt-ltb 0 (q .owed .0) (omega arith)))
           (eq-eqb (q .gathered .0) (q .owed .0) h))

@@ -19,10 +19,10 @@ use Rattle.crc.proofs.Damage.{odd-damage, burst-Right}
 use Rattle.crc.proofs.Divides.{right-Right}
 use Rattle.crc.proofs.Sealing.{length-sealed, sealed-keeps-bytes, sealed-bytes, sealed-right}
 use Rattle.flits.specs.Fields.{fields-of, replay as replay-run}
-use Rattle.flits.specs.Flits.{control-told, idle-flit, replay-flit}
-use Rattle.flits.specs.declared.write.Replay.{Replay}
+use Rattle.compose.specs.Flits.{control-told, idle-flit, replay-flit}
+use Rattle.compose.specs.declared.Replay.{Replay}
 use Rattle.flits.proofs.Laws.{append-bytes}
-use Rattle.flits.proofs.RoundTrip.{idle-read, replay-read, ControlRead, control-sealed, control-told-size, control-told-bytes}
+use Rattle.compose.proofs.RoundTrip.{idle-read, replay-read, ControlRead, control-sealed, control-told-size, control-told-bytes}
 use Rattle.ends.specs.Ring.{flit-at}
 use Rattle.ends.proofs.Tests.{and-false-l, and-true}
 use Rattle.link.specs.Stream.{Block, Stream, num, part, control, idle, replay}

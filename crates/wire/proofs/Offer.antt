@@ -20,7 +20,7 @@ use Rattle.ends.specs.declared.state.End.{End as KeptEnd}
 use Rattle.ends.specs.declared.state.Refusal.{Refusal}
 use Rattle.ends.specs.declared.state.Verdict.{Verdict}
 use Rattle.ends.specs.declared.state.Verdict.the-variants.{Refused, Admitted}
-use Rattle.ends.proofs.Tests.{and-l, and-r, pick-either}
+use Rattle.ends.proofs.Tests.{and-l, and-r, cond-either}
 use Rattle.accept.specs.Accept.{unit-shaped, flits-of, control-of, verdict, written}
 use Rattle.link.specs.Stream.{Block, Stream, owed, num}
 use Rattle.link.specs.End.{Sender}
@@ -65,19 +65,19 @@ pub offered : (q : KeptEnd) (store unit : List ℕ) (P : Verdict → Type 0) →
     → P (verdict q store unit)
 unfolding verdict
 offered q store unit P no-way good =
-    pick-either P (not (store-is q (length store))) _ _ (λ h. no-way _)
+    cond-either P (not (store-is q (length store))) _ _ (λ h. no-way _)
     (λ h1.
-    pick-either P (not (sound q store)) _ _ (λ h. no-way _)
+    cond-either P (not (sound q store)) _ _ (λ h. no-way _)
     (λ h2.
-    pick-either P (not (unit-shaped (length unit))) _ _ (λ h. no-way _)
+    cond-either P (not (unit-shaped (length unit))) _ _ (λ h. no-way _)
     (λ h3.
-    pick-either P (is-down (q .mode)) _ _ (λ h. no-way _)
+    cond-either P (is-down (q .mode)) _ _ (λ h. no-way _)
     (λ h4.
-    pick-either P (not (eqb (flits-of unit - 1) (last-run q store))) _ _ (λ h. no-way _)
+    cond-either P (not (eqb (flits-of unit - 1) (last-run q store))) _ _ (λ h. no-way _)
     (λ h5.
-    pick-either P (not (acceptable (control-of unit))) _ _ (λ h. no-way _)
+    cond-either P (not (acceptable (control-of unit))) _ _ (λ h. no-way _)
     (λ h6.
-    pick-either P (ltb (q .capacity .0) (q .held .0 + flits-of unit)) _ _ (λ h. no-way _)
+    cond-either P (ltb (q .capacity .0) (q .held .0 + flits-of unit)) _ _ (λ h. no-way _)
     (λ h7.
     good
     (let sh = shaped (length unit) (not-false _ h3) in

@@ -7,16 +7,16 @@ use native.Mathlib.Decide.{decLt}
 use borrow.Author.Tests.{lt-ltb, le-ltb}
 use lib.Dec.{ltb}
 use Rattle.ends.specs.Ring.{place}
-use Rattle.ends.proofs.Tests.{pick-true, pick-false}
+use Rattle.ends.proofs.Tests.{cond-true, cond-false}
 
 module _ (c first : ℕ) where
   pub place-low : (n : ℕ) → first + n < c → place c first n ≡ first + n
   unfolding place
-  place-low n h = pick-true (ltb (first + n) c) (first + n) (first + n - c) (lt-ltb (first + n) c h)
+  place-low n h = cond-true (ltb (first + n) c) (first + n) (first + n - c) (lt-ltb (first + n) c h)
 
   pub place-high : (n : ℕ) → c ≤ first + n → place c first n ≡ first + n - c
   unfolding place
-  place-high n h = pick-false (ltb (first + n) c) (first + n) (first + n - c) (le-ltb (first + n) c h)
+  place-high n h = cond-false (ltb (first + n) c) (first + n) (first + n - c) (le-ltb (first + n) c h)
 
   pub place-lt : (n : ℕ) → first < c → n ≤ c → place c first n < c
   place-lt n h k = go (decLt (first + n) c)

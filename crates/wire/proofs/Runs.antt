@@ -1,7 +1,7 @@
 -- Any run of two fresh ends keeps the two systems side by side. The streams are what has been accepted at the end of the run, so that
 -- nothing about them changes on the way. Assumes nothing.
 use mathlib.Core.Path.{_≡_, refl, ap, sym, subst, _∙_}
-use mathlib.Core.Bool.{Bool, true, false, _&&_, false≢true}
+use mathlib.Core.Bool.{Bool, true, false, _&&_, false≢true, cond}
 use mathlib.Core.List.{List, [], _∷_, _++_}
 use Prim.Native.Nat.{ℕ, _/_, _%_}
 use native.Mathlib.Omega.{arith}
@@ -9,13 +9,12 @@ use borrow.Author.Tests.{le-leb, eq-eqb}
 use lib.Dec.{leb, eqb}
 use lib.ListN.{length, length-append, List·getD-append}
 use Rattle.crc.specs.Unit.{right}
-use Rattle.ends.specs.Choice.{pick}
 use Rattle.ends.specs.State.{store-fits, fresh, start}
 use Rattle.ends.specs.declared.state.End.{End as KeptEnd}
 use Rattle.ends.specs.declared.state.Started.{Started}
 use Rattle.ends.specs.declared.state.Verdict.{Verdict}
 use Rattle.ends.specs.declared.state.Verdict.the-variants.{Refused, Admitted}
-use Rattle.ends.proofs.Tests.{and-true, pick-true}
+use Rattle.ends.proofs.Tests.{and-true, cond-true}
 use Rattle.accept.specs.Accept as accept
 use Rattle.link.specs.Stream.{Stream}
 use Rattle.link.specs.End as link
@@ -62,10 +61,10 @@ agrees-offer : (f : Stream) (v : Verdict) (units : List (List ℕ)) (u : List �
 agrees-offer f (Refused r) units u h = h
 agrees-offer f Admitted units u h = agrees-before f units u h
 
-pick-same : (b : Bool) (s t : System) (x y : Bool) (f g : Stream) → Foreseen x y f g (pick b s t)
+cond-same : (b : Bool) (s t : System) (x y : Bool) (f g : Stream) → Foreseen x y f g (cond b s t)
     → (Foreseen x y f g s → Foreseen x y f g t) → Foreseen x y f g t
-pick-same true s t x y f g h k = k h
-pick-same false s t x y f g h k = h
+cond-same true s t x y f g h k = k h
+cond-same false s t x y f g h k = h
 
 earlier-call : (x y : Bool) (f g : Stream) (c : Call) (s : System) → Foreseen x y f g (calls c s) → Foreseen x y f g s
 earlier-call x y f g (accepts unit) s h =
@@ -73,7 +72,7 @@ earlier-call x y f g (accepts unit) s h =
 earlier-call x y f g (sends errors information output arrivals) s h =
     record { a = h .a; b = h .b; ab = λ t. unaltered-before (s .ab .passages) (passing (units-of (flits-sent errors information output (s .a))) arrivals) (h .ab t); ba = h .ba }
 earlier-call x y f g receives s h =
-    pick-same (on-the-way (s .ba)) _ s x y f g h (λ k. record { a = k .a; b = k .b; ab = k .ab; ba = k .ba })
+    cond-same (on-the-way (s .ba)) _ s x y f g h (λ k. record { a = k .a; b = k .b; ab = k .ab; ba = k .ba })
 
 one-call : (x y : Bool) (f g : Stream) (c : Call) (s : System) → Joint x y f g s → Given Arrives c s → Foreseen x y f g (calls c s) → Joint x y f g (calls c s)
 one-call x y f g (accepts unit) s j t h = by-accepts x y f g s j unit t (h .a)
@@ -120,7 +119,7 @@ made : (store hold : List ℕ) (h : Lent store hold) → start (length store) .e
 unfolding start
 made store hold h =
     let e : length store / 64 ≡ h .capacity = omega (arith, h .size) in
-    ap (λ (r : Started). r .end) (pick-true (store-fits (length store)) _ _ (fits store hold h)) ∙ ap fresh e
+    ap (λ (r : Started). r .end) (cond-true (store-fits (length store)) _ _ (fits store hold h)) ∙ ap fresh e
 
 fresh-linked : (f g : Stream) (store hold : List ℕ) → Lent store hold → Linked f g link.fresh (fresh-side store hold)
 unfolding link.fresh fresh

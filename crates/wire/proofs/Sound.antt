@@ -1,6 +1,6 @@
 -- The tests of refusals 1 and 2 hold of every state that stands for a state of the abstract link. Assumes nothing.
 use mathlib.Core.Path.{_≡_, refl, ap, ap₂, sym, subst, _∙_}
-use mathlib.Core.Bool.{Bool, true, false, not, _&&_, _||_}
+use mathlib.Core.Bool.{Bool, true, false, not, _&&_, _||_, cond}
 use mathlib.Core.List.{List}
 use Prim.Native.Nat.{ℕ, _-_, _*_, _/_, _%_, _≤_, _<_}
 use native.Mathlib.Omega.{arith}
@@ -8,12 +8,11 @@ use native.Mathlib.Decide.{decLt}
 use borrow.Author.Tests.{lt-ltb, le-ltb, le-leb, eq-eqb}
 use lib.Dec.{ltb, leb, eqb}
 use lib.ListN.{length}
-use Rattle.ends.specs.Choice.{pick}
 use Rattle.ends.specs.State.{store-fits}
 use Rattle.ends.specs.Ring.{walked}
 use Rattle.ends.specs.Refusals.{cursor-at, sent-at, acknowledged-at, store-is, counts-sound, numbers-sound, units-sound, sound}
 use Rattle.ends.specs.declared.state.End.{End as KeptEnd}
-use Rattle.ends.proofs.Tests.{and-true, pick-true, pick-false}
+use Rattle.ends.proofs.Tests.{and-true, cond-true, cond-false}
 use Rattle.link.specs.Stream.{Stream, owed, num}
 use Rattle.link.specs.End.{Sender, Receiver}
 use Rattle.link.proofs.Num.{num-le}
@@ -81,28 +80,28 @@ module _ (f g : Stream) (store hold : List ℕ) (handed : List (List ℕ)) (s : 
     da : acknowledged-at q ≡ s .acked - num f (s .oldest)
     da = at-acknowledged f store s q l h fo
 
-    inside-oldest : acknowledged-at q ≤ pick (ltb 0 (q .held .0)) (q .kept .0) 0
+    inside-oldest : acknowledged-at q ≤ cond (ltb 0 (q .held .0)) (q .kept .0) 0
     inside-oldest = go (decLt 0 (q .held .0))
       where
-        go : Dec (0 < q .held .0) → acknowledged-at q ≤ pick (ltb 0 (q .held .0)) (q .kept .0) 0
+        go : Dec (0 < q .held .0) → acknowledged-at q ≤ cond (ltb 0 (q .held .0)) (q .kept .0) 0
         go (yes p) =
-            subst (λ (n : ℕ). acknowledged-at q ≤ n) (sym (pick-true (ltb 0 (q .held .0)) (q .kept .0) 0 (lt-ltb 0 (q .held .0) p)))
+            subst (λ (n : ℕ). acknowledged-at q ≤ n) (sym (cond-true (ltb 0 (q .held .0)) (q .kept .0) 0 (lt-ltb 0 (q .held .0) p)))
             (omega (arith, da, h .kept, l .kept, l .freed))
         go (no p) =
-            subst (λ (n : ℕ). acknowledged-at q ≤ n) (sym (pick-false (ltb 0 (q .held .0)) (q .kept .0) 0 (le-ltb 0 (q .held .0) (omega arith))))
+            subst (λ (n : ℕ). acknowledged-at q ≤ n) (sym (cond-false (ltb 0 (q .held .0)) (q .kept .0) 0 (le-ltb 0 (q .held .0) (omega arith))))
             (omega (arith, da, h .held, l .past, up″))
 
     numbers : numbers-sound q ≡ true
     unfolding numbers-sound
     numbers =
         and-true _ (leb (acknowledged-at q) (sent-at q))
-        (and-true _ (leb (acknowledged-at q) (pick (ltb 0 (q .held .0)) (q .kept .0) 0))
+        (and-true _ (leb (acknowledged-at q) (cond (ltb 0 (q .held .0)) (q .kept .0) 0))
         (and-true _ (leb (sent-at q) (q .held .0))
         (and-true (leb (cursor-at q) (q .held .0)) (leb (cursor-at q) (sent-at q))
         (le-leb (cursor-at q) (q .held .0) (omega (arith, dc, h .held, up, up′, up″)))
         (le-leb (cursor-at q) (sent-at q) (omega (arith, dc, ds, up, up′))))
         (le-leb (sent-at q) (q .held .0) (omega (arith, ds, h .held, up, up′, up″))))
-        (le-leb (acknowledged-at q) (pick (ltb 0 (q .held .0)) (q .kept .0) 0) inside-oldest))
+        (le-leb (acknowledged-at q) (cond (ltb 0 (q .held .0)) (q .kept .0) 0) inside-oldest))
         (le-leb (acknowledged-at q) (sent-at q) (omega (arith, da, ds, l .past, l .freed)))
 
     all : num f (s .accepted) - num f (s .oldest) ≡ q .held .0

@@ -14,12 +14,12 @@ use Rattle.numbers.specs.Numbers.{width, difference}
 use Rattle.crc.specs.Unit.{Bytes}
 use Rattle.flits.specs.Bytes.{read}
 use Rattle.flits.specs.Fields.{content, run-length, acceptable, fields-of}
-use Rattle.flits.proofs.RoundTrip.{acceptable-is}
+use Rattle.compose.proofs.RoundTrip.{acceptable-is}
 use Rattle.ends.specs.Ring.{flit-at, place, stored, begun, walk, walked}
 use Rattle.ends.specs.Refusals.{cursor-at, sent-at, acknowledged-at}
 use Rattle.ends.specs.declared.state.End.{End}
 use Rattle.ends.specs.declared.walk.Walk.{Walk}
-use Rattle.ends.proofs.Tests.{and-true, pick-true, pick-false}
+use Rattle.ends.proofs.Tests.{and-true, cond-true, cond-false}
 use Rattle.ends.proofs.Walks.{inside, next-border}
 use Rattle.acknowledge.specs.Acknowledge.{last-border}
 use Rattle.link.specs.Stream.{Block, Stream, owed, num}
@@ -203,7 +203,7 @@ module _ (f : Stream) (store : List ℕ) (s : Sender) (q : End) (l : Local most 
   border-at : (n : ℕ) → walked q store n .border ≡ true → borders n ≡ n
   unfolding last-border
   border-at zero b = refl
-  border-at (suc n) b = pick-true (walked q store (suc n) .border) (suc n) (borders n) b
+  border-at (suc n) b = cond-true (walked q store (suc n) .border) (suc n) (borders n) b
 
   pub borders-in : (i j : ℕ) → s .oldest ≤ i → i ≤ s .accepted → j ≤ owed f i → borders (off i + j) ≡ off i
   unfolding last-border
@@ -213,7 +213,7 @@ module _ (f : Stream) (store : List ℕ) (s : Sender) (q : End) (l : Local most 
       let n = inside q store kept-le (off i) (w .border) (suc j) (rw (w .run) c) in
       let e : off i + suc j ≡ suc (off i + j) = omega arith in
       let fl : walked q store (suc (off i + j)) .border ≡ false = subst (λ (m : ℕ). walked q store m .border ≡ false) e (n .border (omega arith)) in
-      ap borders e ∙ pick-false (walked q store (suc (off i + j)) .border) (suc (off i + j)) (borders (off i + j)) fl ∙ borders-in i j a b (omega arith)
+      ap borders e ∙ cond-false (walked q store (suc (off i + j)) .border) (suc (off i + j)) (borders (off i + j)) fl ∙ borders-in i j a b (omega arith)
 
 -- the unit in which a flit lies
 pub record Within (f : Stream) (i a : ℕ) : Type 0 where

@@ -2,13 +2,12 @@
 -- A run is any list of accepts, sends and receives of the two, each call given the state, the store and the hold as the last one left
 -- them. The calls are those of crates accept, send and receive. Assumes nothing.
 use mathlib.Core.Path.{_≡_}
-use mathlib.Core.Bool.{Bool}
+use mathlib.Core.Bool.{Bool, cond}
 use mathlib.Core.List.{List, [], _∷_, _++_}
 use Prim.Native.Nat.{ℕ, suc, _*_, _^_, _≤_, _<_}
 use lib.Dec.{ltb, eqb}
 use lib.ListN.{length, take}
 use Rattle.crc.specs.Unit.{Bytes}
-use Rattle.ends.specs.Choice.{pick}
 use Rattle.ends.specs.State.{start}
 use Rattle.ends.specs.Ring.{flit-at}
 use Rattle.ends.specs.declared.state.End.{End}
@@ -128,7 +127,7 @@ oldest-flit w = flit-at (arriving (w .passages)) (w .taken)
 
 -- a flit whose receive is refused has not arrived
 abbrev pub arrived-by : Answer → ℕ → ℕ
-arrived-by a n = pick (eqb (refusal-number a) 0) (suc n) n
+arrived-by a n = cond (eqb (refusal-number a) 0) (suc n) n
 
 -- a unit is handed on in the first part of hold: its data flits, then its control flit
 abbrev pub handed-by : Answer → List ℕ → List (List ℕ)
@@ -176,7 +175,7 @@ calls (sends errors information output arrivals) s =
       ba = s .ba;
     }
 calls receives s =
-    pick (on-the-way (s .ba))
+    cond (on-the-way (s .ba))
     (record {
       a = receiving (oldest-flit (s .ba)) (s .a);
       b = s .b;

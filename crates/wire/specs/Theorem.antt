@@ -1,15 +1,14 @@
 -- The third test of acceptance (00, condition B 3), clause by clause, as it is said of any system that two fresh ends come to. Seen from
 -- a: what a has sent, and what b has handed on; the other direction is the same of the turned system. Assumes nothing.
 use mathlib.Core.Path.{_≡_}
-use mathlib.Core.Bool.{Bool, true, false, not, _&&_}
+use mathlib.Core.Bool.{Bool, true, false, not, _&&_, cond}
 use mathlib.Core.Logic.{_≢_}
 use mathlib.Core.List.{List, [], _∷_, _++_, map}
 use Prim.Native.Nat.{ℕ, suc, _+_, _-_, _*_, _/_, _≤_}
 use lib.Dec.{ltb, leb, eqb}
 use lib.ListN.{length, take, drop}
 use Rattle.flits.specs.Fields.{fields-of}
-use Rattle.flits.specs.Flits.{bare-control}
-use Rattle.ends.specs.Choice.{pick}
+use Rattle.compose.specs.Flits.{bare-control}
 use Rattle.ends.specs.State.{verdict-number}
 use Rattle.ends.specs.Refusals.{is-down}
 use Rattle.accept.specs.Accept.{accept}
@@ -37,8 +36,8 @@ is-unit unit = not (eqb (length unit) 64 && ltb 8 (fields-of unit .run .0))
 unfoldable pub arrived-units : ℕ → List Passage → List (List ℕ)
 arrived-units flits [] = []
 arrived-units flits (p ∷ ps) =
-    pick (leb (length (p .arrives) / 64) flits)
-    (pick (is-unit (p .sent)) (p .sent ∷ arrived-units (flits - length (p .arrives) / 64) ps) (arrived-units (flits - length (p .arrives) / 64) ps))
+    cond (leb (length (p .arrives) / 64) flits)
+    (cond (is-unit (p .sent)) (p .sent ∷ arrived-units (flits - length (p .arrives) / 64) ps) (arrived-units (flits - length (p .arrives) / 64) ps))
     []
 
 -- nothing sent was altered

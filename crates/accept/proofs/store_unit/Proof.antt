@@ -1,14 +1,12 @@
 -- `accept::store_unit` meets its contract. The loop's invariant: the store is as long as before, and holds the first n flits of the
 -- unit at the places after the held flits. Assumes nothing.
 use mathlib.Core.List.{List}
-use mathlib.Core.Path.{_≡_, refl, _∙_}
-use Prim.Native.Nat.{ℕ, _+_, _*_, _-_, _≤_}
+use mathlib.Core.Path.{_≡_, refl, sym, ap, ap₂, _∙_}
+use Prim.Native.Nat.{ℕ, _+_, _-_, _≤_}
 use native.Mathlib.Omega.{arith}
 use native.Mathlib.Numerals.{add-one}
-use borrow.Rule.Slice.PartMut.{same-len-mid}
 use lib.ListN.{length}
 use Rattle.ends.specs.Ring.{flit-at, put-at, place}
-use Rattle.ends.proofs.Parts.{flit-is, put-is}
 use Rattle.accept.specs.Accept.{written}
 use Rattle.accept.proofs.store_unit.Statement.{statement}
 use Rattle.accept.proofs.store_unit.Tie as tie
@@ -37,41 +35,8 @@ add-place c = omega arith
 place-requires : tie.Need-place-requires Inv-loop μ-loop
 place-requires c κs = omega arith
 
-mul-to : tie.Need-mul-to Inv-loop μ-loop
-mul-to c = omega arith
-
-add-to-end : tie.Need-add-to-end Inv-loop μ-loop
-add-to-end c = omega arith
-
-mul-from : tie.Need-mul-from Inv-loop μ-loop
-mul-from c = omega arith
-
-add-from-end : tie.Need-add-from-end Inv-loop μ-loop
-add-from-end c = omega arith
-
-sub-taken : tie.Need-sub-taken Inv-loop μ-loop
-sub-taken c = omega arith
-
-part-taken-start : tie.Need-part-taken-start Inv-loop μ-loop
-part-taken-start c = omega arith
-
-part-taken-end : tie.Need-part-taken-end Inv-loop μ-loop
-part-taken-end c = omega arith
-
-taken-requires : tie.Need-taken-requires Inv-loop μ-loop
-taken-requires c κs = omega arith
-
-sub-put : tie.Need-sub-put Inv-loop μ-loop
-sub-put c = omega arith
-
-part-put-start : tie.Need-part-put-start Inv-loop μ-loop
-part-put-start c = omega arith
-
-part-put-end : tie.Need-part-put-end Inv-loop μ-loop
-part-put-end c = omega arith
-
-put-requires : tie.Need-put-requires Inv-loop μ-loop
-put-requires c κs = omega arith
+copy-flit-requires : tie.Need-copy-flit-requires Inv-loop μ-loop
+copy-flit-requires c κs = omega arith
 
 add-n : tie.Need-add-n Inv-loop μ-loop
 add-n c = omega arith
@@ -81,19 +46,14 @@ loop-less c = omega arith
 
 loop-again : tie.Need-loop-again Inv-loop μ-loop
 loop-again c =
-    let l = c .before .before .before .before .before .before .before .before .loop in
-    let a = c .before .before .before .before .before .before .before .before .before .before .before .args in
-    let p = c .before .before .before .before .before .before .place in
-    let t = c .before .before .before .before .taken in
-    let k = c .before .before .put in
-    let from = l .n * 64 in
-    let to = p .result * 64 in
-    let f = flit-is (a .unit .now) (l .n) from (from + 64 - from) refl (omega arith) in
-    let w = put-is (l .store) (k .last .0) (p .result) to (to + 64 - to) refl (omega arith) in
+    let l = c .before .before .before .before .before .before .loop in
+    let a = c .before .before .before .before .before .before .before .before .before .args in
+    let p = c .before .before .before .before .place in
+    let k = c .before .before .copy-flit in
     let s = step (a .e .capacity .0) (a .e .first) (a .e .held .0) (a .store .now) (a .unit .now) (l .n) in (
       omega arith,
-      same-len-mid to (to + 64 - to) (l .store) (k .last .0) (k .kept .0) ∙ l .inv .1,
-      cc (f, w, s, p .ensures .0, t .ensures, k .ensures, l .inv .2),
+      omega arith,
+      k .ensures ∙ ap₂ (λ (x : List ℕ) (m : ℕ). put-at x m (flit-at (a .unit .now) (l .n))) (l .inv .2) (p .ensures .0) ∙ sym s,
     )
 
 same-length : tie.Need-same-length Inv-loop μ-loop
@@ -104,7 +64,7 @@ returns c =
     let l = c .before .loop in
     let a = c .before .before .before .before .args in
     let n : l .n ≡ a .flits = omega arith in
-    cc (l .inv .2)
+    l .inv .2 ∙ ap (written (a .e .capacity .0) (a .e .first) (a .e .held .0) (a .store .now) (a .unit .now)) n
 
 pub store-unit-spec : {M : Type 1} → statement M
 store-unit-spec =
@@ -115,18 +75,7 @@ store-unit-spec =
     loop-holds
     add-place
     place-requires
-    mul-to
-    add-to-end
-    mul-from
-    add-from-end
-    sub-taken
-    part-taken-start
-    part-taken-end
-    taken-requires
-    sub-put
-    part-put-start
-    part-put-end
-    put-requires
+    copy-flit-requires
     add-n
     loop-less
     loop-again

@@ -3,7 +3,7 @@
 use borrow.Author.Needs.{needs}
 use borrow.Author.Tests.{not-true, not-false, eq-eqb, ne-eqb, lt-ltb, le-ltb}
 use native.Mathlib.Omega.{arith}
-use mathlib.Core.Bool.{true, false, not}
+use mathlib.Core.Bool.{true, false, not, cond}
 use mathlib.Core.List.{List}
 use mathlib.Core.Path.{_≡_, sym, ap, _∙_}
 use Prim.Native.Nat.{ℕ, _+_, _-_}
@@ -11,13 +11,12 @@ use lib.Dec.{eqb, ltb}
 use lib.ListN.{length, take, drop, length-drop}
 use lib.Seq.{take-all}
 use Rattle.flits.specs.Fields.{acceptable}
-use Rattle.ends.specs.Choice.{pick}
 use Rattle.ends.specs.Refusals.{store-is, sound, is-down, last-run}
 use Rattle.ends.specs.declared.state.End.{End}
 use Rattle.ends.specs.declared.state.Refusal.the-variants as refusal
 use Rattle.ends.specs.declared.state.Verdict.{Verdict}
 use Rattle.ends.specs.declared.state.Verdict.the-variants.{Refused, Admitted}
-use Rattle.ends.proofs.Tests.{pick-true}
+use Rattle.ends.proofs.Tests.{cond-true}
 use Rattle.ends.proofs.Facts.{stored-is, sound-is}
 use Rattle.accept.specs.Accept.{unit-shaped, flits-of, control-of, verdict}
 use Rattle.accept.proofs.Admission.{shaped}
@@ -44,14 +43,14 @@ last-is : (c : tie.Else2) → let a = c .before .before .before .before .before 
     c .before .before .judge .result .last .0 ≡ last-run (a .e) (a .store .now)
 last-is c =
     let a = c .before .before .before .before .before .before .before .args in
-    c .before .before .judge .ensures .1 .1 ∙ pick-true (sound (a .e) (a .store .now)) (last-run (a .e) (a .store .now)) 0 (is-sound c)
+    c .before .before .judge .ensures .1 .1 ∙ cond-true (sound (a .e) (a .store .now)) (last-run (a .e) (a .store .now)) 0 (is-sound c)
 
 -- past the first four tests
 abbrev rest : End → List ℕ → List ℕ → Verdict
 rest e store unit =
-    pick (not (eqb (flits-of unit - 1) (last-run e store))) (Refused refusal.Run)
-    (pick (not (acceptable (control-of unit))) (Refused refusal.Field)
-    (pick (ltb (e .capacity .0) (e .held .0 + flits-of unit)) (Refused refusal.Full)
+    cond (not (eqb (flits-of unit - 1) (last-run e store))) (Refused refusal.Run)
+    (cond (not (acceptable (control-of unit))) (Refused refusal.Field)
+    (cond (ltb (e .capacity .0) (e .held .0 + flits-of unit)) (Refused refusal.Full)
     Admitted))
 
 four : (c : tie.Else4) → let a = c .before .before .before .before .before .before .before .before .before .before .before .args in
@@ -137,7 +136,7 @@ returns-6 c =
 -- past the first six tests
 six : (c : tie.Else6) → let a = c .before .before .before .before .before .before .before .before .before .before .before .before .before .before .before .before .args in
     verdict (a .e) (a .store .now) (a .unit .now)
-    ≡ pick (ltb (a .e .capacity .0) (a .e .held .0 + flits-of (a .unit .now))) (Refused refusal.Full) Admitted
+    ≡ cond (ltb (a .e .capacity .0) (a .e .held .0 + flits-of (a .unit .now))) (Refused refusal.Full) Admitted
 six c =
     let d = c .before .before .before in
     let a = c .before .before .before .before .before .before .before .before .before .before .before .before .before .before .before .before .args in

@@ -4,7 +4,7 @@ use native.Mathlib.Omega.{arith}
 use borrow.Author.Needs.{needs}
 use Rattle.ends.specs.Ring.{walk}
 use Rattle.ends.specs.declared.walk.Walk.{Walk}
-use Rattle.ends.proofs.Tests.{pick-true, pick-false}
+use Rattle.ends.proofs.Tests.{cond-true, cond-false}
 use Rattle.ends.proofs.Walks.{one-more}
 use Rattle.ends.proofs.Parts.{flit-is}
 use Rattle.acknowledge.specs.Acknowledge.{last-border}
@@ -78,7 +78,7 @@ loop-again c =
     let w = further (c .before) in
     let b = ap (λ (x : Walk). x .border) (sym w) ∙ c .if1 .taken in
     let step = border-step (a .e .capacity .0) (a .e .first) w₀ (a .store .now) (l .n) in
-    (omega arith, w, sym (step ∙ pick-true _ (l .n + 1) _ b), ap (λ (x : Walk). x .run) w)
+    (omega arith, w, sym (step ∙ cond-true _ (l .n + 1) _ b), ap (λ (x : Walk). x .run) w)
 
 loop-less-2 : tie.Need-loop-less-2 Inv-loop μ-loop
 loop-less-2 c = omega arith
@@ -91,7 +91,7 @@ loop-again-2 c =
     let w = further (c .before) in
     let b = ap (λ (x : Walk). x .border) (sym w) ∙ c .if1 .left in
     let step = border-step (a .e .capacity .0) (a .e .first) w₀ (a .store .now) (l .n) in
-    (omega arith, w, l .inv .2 ∙ sym (step ∙ pick-false _ (l .n + 1) _ b), l .inv .3)
+    (omega arith, w, l .inv .2 ∙ sym (step ∙ cond-false _ (l .n + 1) _ b), l .inv .3)
 
 returns : tie.Need-returns Inv-loop μ-loop
 returns c =

@@ -1,5 +1,7 @@
+use mathlib.Core.Bool.{Bool, not, _||_}
+use mathlib.Core.Path.{ap, _∙_}
 use borrow.Author.Needs.{needs}
-use Rattle.arrivals.specs.Arrivals.{damaged}
+use Rattle.arrivals.specs.Arrivals.{run-wrong, stall-wrong, damaged}
 use Rattle.arrivals.proofs.damaged.Statement.{statement}
 use Rattle.arrivals.proofs.damaged.Tie as tie
 
@@ -14,7 +16,11 @@ straddles-requires c κs = search needs
 
 returns : tie.Need-returns
 unfolding damaged
-returns c = cc
+returns c =
+    let a = c .before .before .before .args in
+    ap (λ (b : Bool). not (a .correct) || b || c .before .stall-wrong .result || c .straddles .result) (c .before .before .run-wrong .ensures)
+    ∙ ap (λ (b : Bool). not (a .correct) || run-wrong (a .e) (a .f) || b || c .straddles .result) (c .before .stall-wrong .ensures)
+    ∙ ap (λ (b : Bool). not (a .correct) || run-wrong (a .e) (a .f) || stall-wrong (a .e) (a .f) || b) (c .straddles .ensures)
 
 pub damaged-spec : {M : Type 1} → statement M
 damaged-spec =

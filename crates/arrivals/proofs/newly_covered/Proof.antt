@@ -1,3 +1,6 @@
+use mathlib.Core.Path.{ap, _∙_}
+use Prim.Native.Nat.{ℕ}
+use Rattle.numbers.specs.Numbers.{width, difference}
 use borrow.Author.Needs.{needs}
 use Rattle.arrivals.specs.Arrivals.{newly-covered}
 use Rattle.arrivals.proofs.newly_covered.Statement.{statement}
@@ -14,7 +17,10 @@ flits-between-requires c κs = search needs
 
 returns : tie.Need-returns
 unfolding newly-covered
-returns c = cc
+returns c =
+    let a = c .before .before .before .args in
+    c .flits-between .ensures
+    ∙ ap (λ (n : ℕ). difference width n (a .e .acknowledged .0)) (c .before .wanted-number .ensures ∙ c .before .before .next-wanted .ensures)
 
 pub newly-covered-spec : {M : Type 1} → statement M
 newly-covered-spec =

@@ -1,3 +1,6 @@
+use mathlib.Core.Path.{ap}
+use Prim.Native.Nat.{ℕ}
+use lib.Dec.{ltb}
 use borrow.Author.Needs.{needs}
 use Rattle.arrivals.specs.Arrivals.{past-sent}
 use Rattle.arrivals.proofs.past_sent.Statement.{statement}
@@ -8,7 +11,9 @@ flits-between-requires c κs = search needs
 
 returns : tie.Need-returns
 unfolding past-sent
-returns c = cc
+returns c =
+    let a = c .before .before .before .args in
+    ap (λ (n : ℕ). ltb n (a .flits .0)) (c .before .before .flits-between .ensures)
 
 pub past-sent-spec : {M : Type 1} → statement M
 past-sent-spec = tie.close (tie.spec flits-between-requires returns)

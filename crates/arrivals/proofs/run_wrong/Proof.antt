@@ -1,3 +1,6 @@
+use mathlib.Core.Bool.{Bool, _&&_, _||_}
+use mathlib.Core.Path.{ap}
+use lib.Dec.{ltb}
 use borrow.Author.Needs.{needs}
 use Rattle.arrivals.specs.Arrivals.{run-wrong}
 use Rattle.arrivals.proofs.run_wrong.Statement.{statement}
@@ -8,7 +11,9 @@ closes-requires c κs = search needs
 
 returns : tie.Need-returns
 unfolding run-wrong
-returns c = cc
+returns c =
+    let a = c .before .before .before .before .args in
+    ap (λ (b : Bool). (b && ltb 8 (a .f .run .0)) || (a .e .stalled && ltb (a .f .run .0) 9)) (c .before .before .before .closes .ensures)
 
 pub run-wrong-spec : {M : Type 1} → statement M
 run-wrong-spec = tie.close (tie.spec closes-requires returns)

@@ -1,3 +1,8 @@
+use mathlib.Core.Bool.{_&&_}
+use mathlib.Core.Path.{ap, _∙_}
+use Prim.Native.Nat.{ℕ, _+_}
+use lib.Dec.{leb, ltb}
+use Rattle.numbers.specs.Numbers.{width, difference}
 use borrow.Author.Needs.{needs}
 use Rattle.arrivals.specs.Arrivals.{straddles}
 use Rattle.arrivals.proofs.straddles.Statement.{statement}
@@ -14,7 +19,12 @@ add-result c = search needs
 
 returns : tie.Need-returns
 unfolding straddles
-returns c = cc
+returns c =
+    let a = c .before .before .before .before .before .before .args in
+    let d =
+    c .before .before .before .before .flits-between .ensures
+    ∙ ap (λ (n : ℕ). difference width n (a .e .position .0)) (c .before .before .before .before .before .wanted-number .ensures) in
+    ap (λ (n : ℕ). leb (a .f .run .0) 8 && ltb 0 n && ltb n (a .e .gathered .0 + 1)) d
 
 pub straddles-spec : {M : Type 1} → statement M
 straddles-spec =

@@ -5,7 +5,7 @@ use mathlib.Core.Path.{ap, sym, _∙_}
 use Prim.Native.Nat.{ℕ}
 use Rattle.text.specs.Text.{ascii, decimal}
 use Rattle.text.proofs.Laws.{puts-more, puts-as, length-decimal, field-end}
-use Rattle.ends.proofs.Tests.{pick-true, pick-false}
+use Rattle.ends.proofs.Tests.{cond-true, cond-false}
 use Rattle.ticket.specs.Ticket.{text}
 use Rattle.bench_lib.specs.Bench.{last-lines}
 use borrow.Author.Needs.{needs}
@@ -48,7 +48,7 @@ returns c =
     let r = c .before .before .put-ticket .ensures in
     let t = c .before .before .before .before .if1 .taken in
     puts-as
-    (ap (λ (l : List ℕ). ascii "rest=" ++ decimal (a .rest) ++ ascii "\n" ++ l) (sym (pick-true (a .ticketed) (text (a .counts)) [] t)))
+    (ap (λ (l : List ℕ). ascii "rest=" ++ decimal (a .rest) ++ ascii "\n" ++ l) (sym (cond-true (a .ticketed) (text (a .counts)) [] t)))
     (puts-more (puts-more p q) r)
 
 same-length-2 : tie.Need-same-length-2
@@ -63,7 +63,7 @@ returns-2 c =
     let t = c .if1 .left in
     puts-as
     (sym
-    (ap (λ (l : List ℕ). ascii "rest=" ++ decimal (a .rest) ++ ascii "\n" ++ l) (pick-false (a .ticketed) (text (a .counts)) [] t)
+    (ap (λ (l : List ℕ). ascii "rest=" ++ decimal (a .rest) ++ ascii "\n" ++ l) (cond-false (a .ticketed) (text (a .counts)) [] t)
     ∙ append-nil (ascii "rest=" ++ decimal (a .rest) ++ ascii "\n")))
     (puts-more p q)
 

@@ -4,7 +4,7 @@ use Prim.Native.Nat.{ℕ}
 use borrow.Author.Needs.{needs}
 use borrow.Author.Tests.{lt-ltb, le-ltb}
 use lib.Dec.{ltb}
-use Rattle.ends.proofs.Tests.{pick-true, pick-false}
+use Rattle.ends.proofs.Tests.{cond-true, cond-false}
 use Rattle.burst.specs.Burst.{fallen}
 use Rattle.burst.proofs.fallen_past.Statement.{statement}
 use Rattle.burst.proofs.fallen_past.Tie as tie
@@ -20,13 +20,13 @@ returns c =
     let a = c .before .before .before .before .args in
     let u = a .untold .0 in
     c .fallen2 .ensures ∙ ap (λ (n : ℕ). fallen n) (c .before .before .before .fallen .ensures)
-    ∙ sym (pick-true (ltb 0 (a .run .0)) (fallen (fallen u)) (fallen u) (lt-ltb 0 (a .run .0) (c .before .if1 .taken)))
+    ∙ sym (cond-true (ltb 0 (a .run .0)) (fallen (fallen u)) (fallen u) (lt-ltb 0 (a .run .0) (c .before .if1 .taken)))
 
 returns-2 : tie.Need-returns-2
 returns-2 c =
     let a = c .before .before .before .args in
     let u = a .untold .0 in
-    c .before .before .fallen .ensures ∙ sym (pick-false (ltb 0 (a .run .0)) (fallen (fallen u)) (fallen u) (le-ltb 0 (a .run .0) (c .if1 .left)))
+    c .before .before .fallen .ensures ∙ sym (cond-false (ltb 0 (a .run .0)) (fallen (fallen u)) (fallen u) (le-ltb 0 (a .run .0) (c .if1 .left)))
 
 pub fallen-past-spec : {M : Type 1} → statement M
 fallen-past-spec = tie.close (tie.spec fallen-requires fallen-requires-2 returns returns-2)

@@ -7,7 +7,7 @@ use borrow.Author.Tests.{lt-ltb, le-ltb}
 use lib.Dec.{ltb}
 use Rattle.numbers.proofs.Laws.{difference-lt}
 use Rattle.numbers.specs.Numbers.{width, after}
-use Rattle.ends.proofs.Tests.{pick-true, pick-false}
+use Rattle.ends.proofs.Tests.{cond-true, cond-false}
 use Rattle.ends.specs.Refusals.{cursor-at, sent-at}
 use Rattle.ends.specs.Update.{with-cursor, with-sent}
 use Rattle.burst.proofs.past_unit.Statement.{statement}
@@ -38,7 +38,7 @@ returns c =
     omega (arith, c .if1 .taken, c .before .before .before .flits-between2 .ensures, c .before .before .before .before .flits-between .ensures) in
     ap₂ (λ (x y : ℕ). with-cursor x (with-sent y (a .e))) n
     (n
-    ∙ sym (pick-true (ltb (sent-at (a .e)) (cursor-at (a .e) + (a .run .0 + 1))) (after width (a .e .cursor .0) (a .run .0 + 1)) (a .e .sent .0)
+    ∙ sym (cond-true (ltb (sent-at (a .e)) (cursor-at (a .e) + (a .run .0 + 1))) (after width (a .e .cursor .0) (a .run .0 + 1)) (a .e .sent .0)
     (lt-ltb (sent-at (a .e)) (cursor-at (a .e) + (a .run .0 + 1)) t)))
 
 returns-2 : tie.Need-returns-2
@@ -48,7 +48,7 @@ returns-2 c =
     let t : cursor-at (a .e) + (a .run .0 + 1) ≤ sent-at (a .e) =
     omega (arith, c .if1 .left, c .before .before .before .flits-between2 .ensures, c .before .before .before .before .flits-between .ensures) in
     ap₂ (λ (x y : ℕ). with-cursor x (with-sent y (a .e))) n
-    (sym (pick-false (ltb (sent-at (a .e)) (cursor-at (a .e) + (a .run .0 + 1))) (after width (a .e .cursor .0) (a .run .0 + 1)) (a .e .sent .0)
+    (sym (cond-false (ltb (sent-at (a .e)) (cursor-at (a .e) + (a .run .0 + 1))) (after width (a .e .cursor .0) (a .run .0 + 1)) (a .e .sent .0)
     (le-ltb (sent-at (a .e)) (cursor-at (a .e) + (a .run .0 + 1)) t)))
 
 pub past-unit-spec : {M : Type 1} → statement M

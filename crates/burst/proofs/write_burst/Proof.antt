@@ -7,7 +7,7 @@ use native.Mathlib.Omega.{arith}
 use borrow.Author.Needs.{needs}
 use lib.Dec.{ltb}
 use lib.ListN.{length, take, drop, length-append}
-use Rattle.flits.specs.Flits.{idle-flit}
+use Rattle.compose.specs.Flits.{idle-flit}
 use Rattle.ends.specs.Refusals.{cursor-at}
 use Rattle.units.specs.Units.{unit-sent}
 use Rattle.burst.specs.Burst.{carried, fallen, replay-sent, burst}

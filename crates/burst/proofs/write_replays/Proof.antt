@@ -6,7 +6,7 @@ use Prim.Native.Nat.{ℕ}
 use borrow.Author.Needs.{needs}
 use lib.Dec.{ltb}
 use lib.ListN.{drop}
-use Rattle.flits.specs.Flits.{replay-flit}
+use Rattle.compose.specs.Flits.{replay-flit}
 use Rattle.burst.specs.Burst.{replay-sent}
 use Rattle.burst.proofs.Lengths.{length-replay}
 use Rattle.units.proofs.Parts.{put-after}

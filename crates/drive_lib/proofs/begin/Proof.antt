@@ -1,9 +1,5 @@
 -- `drive_lib::begin` meets its contract. Assumes nothing.
-use mathlib.Core.List.{[]}
-use mathlib.Core.Path.{ap₂}
-use native.Mathlib.Omega.{arith}
-use Rattle.lines.specs.Lines.{Kept}
-use Rattle.drive_lib.specs.Drive.{State, begun}
+use Rattle.drive_lib.proofs.Steps.{begins}
 use borrow.Author.Needs.{needs}
 use Rattle.drive_lib.proofs.begin.Statement.{statement}
 use Rattle.drive_lib.proofs.begin.Tie as tie
@@ -14,24 +10,26 @@ unstarted-side-requires c κs = search needs
 unstarted-side-requires-2 : tie.Need-unstarted-side-requires-2
 unstarted-side-requires-2 c κs = search needs
 
+with-no-line-requires : tie.Need-with-no-line-requires
+with-no-line-requires c κs = search needs
+
 same-length : tie.Need-same-length
-same-length c = search needs
+same-length c = c .before .before .before .before .before .before .before .before .before .before .before .before .unstarted-side .kept .0
 
 same-length-2 : tie.Need-same-length-2
-same-length-2 c = search needs
+same-length-2 c = c .before .before .before .before .before .before .before .before .before .before .before .before .unstarted-side .kept .1 .0
 
 same-length-3 : tie.Need-same-length-3
-same-length-3 c = search needs
+same-length-3 c = c .before .before .before .before .before .unstarted-side2 .kept .0
 
 same-length-4 : tie.Need-same-length-4
-same-length-4 c = search needs
+same-length-4 c = c .before .before .before .before .before .unstarted-side2 .kept .1 .0
 
 returns : tie.Need-returns
-unfolding begun
 returns c =
-    let a = c .before .before .before .before .before .before .before .before .before .before .before .unstarted-side .ensures in
-    let b = c .before .before .before .before .unstarted-side2 .ensures in
-    (λ line. ap₂ {C = State} (λ (x y : Kept). record { a = x; b = y; line = [] }) (a .0) (b .0), record { a = a .1; b = b .1; line = omega arith })
+    let a = c .before .before .before .before .before .before .before .before .before .before .before .before .unstarted-side in
+    let b = c .before .before .before .before .before .unstarted-side2 in
+    begins (a .result) (b .result) (a .last .0) (a .last .1 .0) (b .last .0) (b .last .1 .0) (a .ensures .0) (b .ensures .0) (a .ensures .1) (b .ensures .1) (c .with-no-line .result) (c .with-no-line .ensures)
 
 pub begin-spec : {M : Type 1} → statement M
 begin-spec =
@@ -39,6 +37,7 @@ begin-spec =
     (tie.spec
     unstarted-side-requires
     unstarted-side-requires-2
+    with-no-line-requires
     same-length
     same-length-2
     same-length-3

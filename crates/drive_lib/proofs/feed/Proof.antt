@@ -1,13 +1,15 @@
 -- `drive_lib::feed` meets its contract: after some turns, what is kept and the output are as after so many bytes. Assumes nothing.
-use mathlib.Core.Path.{_≡_, refl, _∙_}
+use mathlib.Core.Path.{_≡_, refl, sym, _∙_}
 use Prim.Native.Nat.{_+_, _-_, _^_, _≤_, _<_}
+use native.Mathlib.Nat.{zero-add}
 use native.Mathlib.Omega.{arith}
 use borrow.Author.Tests.{ltb-true, leb-true}
-use lib.Dec.{ltb, leb}
-use lib.ListN.{length, getD}
+use lib.Dec.{ltb}
+use lib.ListN.{length}
 use Rattle.ends.proofs.Tests.{and-l, and-r}
-use Rattle.drive_lib.specs.Drive.{session, state-in, Goes}
-use Rattle.drive_lib.proofs.Steps.{goes-none, goes-on, taken-some}
+use Rattle.drive_lib.specs.Drive.{session, taken, state-in, Goes}
+use Rattle.drive_lib.proofs.Steps.{goes-none, goes-on}
+use Rattle.drive_lib.proofs.Taken.{none-taken, taken-next, taken-end}
 use Rattle.drive_lib.proofs.feed.Statement.{statement}
 use Rattle.drive_lib.proofs.feed.Tie as tie
 
@@ -21,7 +23,7 @@ Inv-loop t store-a₀ hold-a₀ store-b₀ hold-b₀ line₀ bytes₀ input out�
     × (length hold-b ≡ length hold-b₀)
     × (length line ≡ length line₀)
     × (length bytes ≡ length bytes₀)
-    × (used ≡ 0 → at ≡ 0)
+    × (used ≡ taken (state-in kept₀ store-a₀ hold-a₀ store-b₀ hold-b₀ line₀) input (length out₀) used)
 
 abbrev μ-loop : tie.MeasureT-loop
 μ-loop t store-a₀ hold-a₀ store-b₀ hold-b₀ line₀ bytes₀ input out₀ most kept₀ at₀ used₀ store-a hold-a store-b hold-b line bytes out kept at used =
@@ -33,12 +35,14 @@ sub-most c = omega (arith, c .before .before .before .before .before .before .be
 loop-holds : tie.Need-loop-holds Inv-loop μ-loop
 loop-holds c =
     let a = c .before .before .before .before .before .before .before .before .args in
-    (omega arith, goes-none (a .d) (a .store-a .now) (a .hold-a .now) (a .store-b .now) (a .hold-b .now) (a .line .now) (a .input .now) (a .out .now) (c .before .before .before .before .before .before .before .before .pre .1), refl, refl, refl, refl, refl, refl, λ _. refl)
+    (omega arith, goes-none (a .d) (a .store-a .now) (a .hold-a .now) (a .store-b .now) (a .hold-b .now) (a .line .now) (a .input .now) (a .out .now) (c .before .before .before .before .before .before .before .before .pre .1), refl, refl, refl, refl, refl, refl, sym (none-taken (state-in (a .d) (a .store-a .now) (a .hold-a .now) (a .store-b .now) (a .hold-b .now) (a .line .now)) (a .input .now) (length (a .out .now))))
 
 shared-slice-read-c : tie.Need-shared-slice-read-c Inv-loop μ-loop
 shared-slice-read-c c =
+    let a = c .before .before .before .before .before .before .before .before .before .before .before .args in
+    let l = c .before .before .loop in
     let t = c .before .loop-test .taken in
-    ltb-true _ _ (and-l _ _ t)
+    omega (arith, ltb-true (l .used) (length (a .input .now)) (and-l (ltb (l .used) (length (a .input .now))) _ t))
 
 step-requires : tie.Need-step-requires Inv-loop μ-loop
 step-requires c κs =
@@ -46,8 +50,7 @@ step-requires c κs =
     let p = c .before .before .before .before .before .before .before .before .before .before .before .before .before .before .before .before .before .before .pre in
     let l = c .before .before .before .before .before .before .before .before .before .loop in
     let t = c .before .before .before .before .before .before .before .before .loop-test .taken in
-    let g = l .inv .1 in
-    let most = length (a .out .now) - 8192 in (
+    let g = l .inv .1 in (
       p .0,
       g .ready,
       record {
@@ -58,7 +61,7 @@ step-requires c κs =
         line = l .inv .6 ∙ p .2 .line;
         bytes = l .inv .7 ∙ p .2 .bytes;
       },
-      omega (arith, p .3, g .lines .size, leb-true (l .at) most (and-r (ltb (l .used) (length (a .input .now))) (leb (l .at) most) t)),
+      omega (arith, p .3, g .lines .size, leb-true (l .at) _ (and-r (ltb (l .used) (length (a .input .now))) _ t)),
     )
 
 before-end : (c : tie.After-kept Inv-loop μ-loop) → c .before .before .before .before .before .before .before .before .before .before .before .before .before .before .before .before .before .before .before .before .before .before .before .before .before .loop .used + 1 ≤ length (c .before .before .before .before .before .before .before .before .before .before .before .before .before .before .before .before .before .before .before .before .before .before .before .before .before .before .before .before .before .before .before .before .before .before .args .input .now)
@@ -66,8 +69,16 @@ before-end c =
     let a = c .before .before .before .before .before .before .before .before .before .before .before .before .before .before .before .before .before .before .before .before .before .before .before .before .before .before .before .before .before .before .before .before .before .before .args in
     let l = c .before .before .before .before .before .before .before .before .before .before .before .before .before .before .before .before .before .before .before .before .before .before .before .before .before .loop in
     let t = c .before .before .before .before .before .before .before .before .before .before .before .before .before .before .before .before .before .before .before .before .before .before .before .before .loop-test .taken in
-    let h = ltb-true (l .used) (length (a .input .now)) (and-l (ltb (l .used) (length (a .input .now))) (leb (l .at) (length (a .out .now) - 8192)) t) in
+    let h = ltb-true (l .used) (length (a .input .now)) (and-l (ltb (l .used) (length (a .input .now))) _ t) in
     omega arith
+
+room-left : (c : tie.After-kept Inv-loop μ-loop) → c .before .before .before .before .before .before .before .before .before .before .before .before .before .before .before .before .before .before .before .before .before .before .before .before .before .loop .at + 8192 ≤ length (c .before .before .before .before .before .before .before .before .before .before .before .before .before .before .before .before .before .before .before .before .before .before .before .before .before .before .before .before .before .before .before .before .before .before .args .out .now)
+room-left c =
+    let a = c .before .before .before .before .before .before .before .before .before .before .before .before .before .before .before .before .before .before .before .before .before .before .before .before .before .before .before .before .before .before .before .before .before .before .args in
+    let p = c .before .before .before .before .before .before .before .before .before .before .before .before .before .before .before .before .before .before .before .before .before .before .before .before .before .before .before .before .before .before .before .before .before .before .pre in
+    let l = c .before .before .before .before .before .before .before .before .before .before .before .before .before .before .before .before .before .before .before .before .before .before .before .before .before .loop in
+    let t = c .before .before .before .before .before .before .before .before .before .before .before .before .before .before .before .before .before .before .before .before .before .before .before .before .loop-test .taken in
+    omega (arith, p .3, leb-true (l .at) _ (and-r (ltb (l .used) (length (a .input .now))) _ t))
 
 add-used : tie.Need-add-used Inv-loop μ-loop
 add-used c =
@@ -83,17 +94,18 @@ loop-again : tie.Need-loop-again Inv-loop μ-loop
 loop-again c =
     let a = c .before .before .before .before .before .before .before .before .before .before .before .before .before .before .before .before .before .before .before .before .before .before .before .before .before .before .before .before .before .before .before .before .before .before .args in
     let l = c .before .before .before .before .before .before .before .before .before .before .before .before .before .before .before .before .before .before .before .before .before .before .before .before .before .loop in
-    let s = c .before .before .before .before .before .before .before .before .before .before .before .before .before .before .before .step in (
+    let s = c .before .before .before .before .before .before .before .before .before .before .before .before .before .before .before .step in
+    let start = state-in (a .d) (a .store-a .now) (a .hold-a .now) (a .store-b .now) (a .hold-b .now) (a .line .now) in (
       before-end c,
-      goes-on (state-in (a .d) (a .store-a .now) (a .hold-a .now) (a .store-b .now) (a .hold-b .now) (a .line .now)) (a .input .now) (l .used) (l .kept) (s .result .drive) (l .store-a) (l .hold-a) (l .store-b) (l .hold-b) (l .line)
-          _ _ _ _ _ (a .out .now) (l .out) _ (l .at) (s .result .at) (getD (a .input .now) (l .used) 0) refl (l .inv .1) (s .ensures),
+      goes-on start (a .input .now) (l .used) (l .kept) (s .result .drive) (l .store-a) (l .hold-a) (l .store-b) (l .hold-b) (l .line)
+          _ _ _ _ _ (a .out .now) (l .out) _ (l .at) (s .result .at) _ (l .inv .1) (s .ensures) refl,
       s .kept .1 .1 .0 ∙ l .inv .2,
       s .kept .1 .1 .1 .0 ∙ l .inv .3,
       s .kept .1 .1 .1 .1 .0 ∙ l .inv .4,
       s .kept .1 .1 .1 .1 .1 .0 ∙ l .inv .5,
       s .kept .1 .1 .1 .1 .1 .1 .0 ∙ l .inv .6,
       s .kept .1 .1 .1 .1 .1 .1 .1 .0 ∙ l .inv .7,
-      λ z. omega arith,
+      taken-next start (a .input .now) (length (a .out .now)) (l .used) (l .inv .8) (omega (arith, l .inv .1 .lines .place, room-left c)),
     )
 
 same-length : tie.Need-same-length Inv-loop μ-loop
@@ -121,7 +133,7 @@ returns : tie.Need-returns Inv-loop μ-loop
 returns c =
     let a = c .before .before .before .before .before .before .before .before .before .before .args in
     let l = c .before .loop in
-    (l .inv .1, (l .inv .0, taken-some (l .used) (l .at) (length (a .input .now)) _ (l .inv .8) (c .loop-test .left)))
+    (l .inv .1, taken-end (state-in (a .d) (a .store-a .now) (a .hold-a .now) (a .store-b .now) (a .hold-b .now) (a .line .now)) (a .input .now) (length (a .out .now)) (l .used) (l .inv .8) (l .at) (l .inv .1 .lines .place ∙ zero-add _) (l .inv .0) (c .before .before .before .before .before .before .before .before .before .before .pre .3) (c .loop-test .left))
 
 pub feed-spec : {M : Type 1} → statement M
 feed-spec =

@@ -14,7 +14,7 @@ returns c =
     let a = c .before .before .before .before .before .before .before .before .before .args in
     let p = c .before .before .before .before .before .before .before .before .before .pre in
     let n = length-take-le (a .d .length) (a .line .now) (omega (arith, p .1 .line, p .2 .line)) in (
-      puts-as (finished-none (state-in (a .d) (a .store-a .now) (a .hold-a .now) (a .store-b .now) (a .hold-b .now) (a .line .now)) (n ∙ c .if1 .taken))
+      puts-as (finished-none (state-in (a .d) (a .store-a .now) (a .hold-a .now) (a .store-b .now) (a .hold-b .now) (a .line .now)) (omega (arith, n, c .if1 .taken)))
           (record { place = refl; bytes = sym (written-none (a .out .now) 0); size = refl }),
       omega arith,
     )

@@ -25,7 +25,7 @@ unfolding started unstarted
 returns c =
     let s = c .before .before .before .before .before .start in
     let e = ap (λ (r : Took). r .side) (s .ensures .0) in (
-      keeps (s .result .side) (started 0 .side) (s .last .0) (s .last .1 .0) (repeated 0 0) (repeated 576 0) e (s .ensures .1 .0) (s .ensures .1 .1),
+      keeps (s .result .side) (started 0 .side) (s .last .0) (s .last .1 .0) (repeated 0 0) (repeated 576 0) e (s .ensures .1 .0) (s .ensures .1 .1 .0),
       subst (λ (x : Side). Sized x) (sym e) (record { kept = omega arith; store = omega arith; hold = omega arith }),
     )
 

@@ -8,7 +8,7 @@ with-mode-requires c κs = search needs
 
 returns : tie.Need-returns
 unfolding waiting
-returns c = cc
+returns c = c .with-mode .ensures
 
 pub waiting-spec : {M : Type 1} → statement M
 waiting-spec = tie.close (tie.spec with-mode-requires returns)

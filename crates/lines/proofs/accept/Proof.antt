@@ -8,7 +8,8 @@ use Rattle.text.specs.Text.{ascii, decimal}
 use Rattle.ends.specs.State.{verdict-number}
 use Rattle.sides.specs.Sides.{accepts, accepts-store}
 use Rattle.sides.specs.declared.Took.{Took}
-use Rattle.lines.specs.Lines.{refuse, accept-line}
+use Rattle.heads.specs.Heads.{refuse}
+use Rattle.lines.specs.Lines.{accept-line}
 use Rattle.lines.proofs.Leaving.{keeps, leaves-stated}
 use borrow.Author.Needs.{needs}
 use Rattle.lines.proofs.accept.Statement.{statement}
@@ -47,7 +48,7 @@ returns c =
     let store = take (a .side .kept) (a .store .now) in
     leaves-stated (ascii "accept refuse=" ++ decimal (c .before .before .before .before .before .before .verdict-number .result)) _ _ (s .result .side) (s .last .1 .0) (a .hold .now) (a .out .now) (a .at) (c .before .before .put-plain .result) _
     (ap (λ (n : ℕ). refuse "accept refuse=" n) (c .before .before .before .before .before .before .verdict-number .ensures ∙ ap (λ (r : Took). verdict-number (r .verdict)) e))
-    (keeps (s .result .side) (accepts (a .side) store (a .unit .now) .side) (s .last .1 .0) (a .hold .now) (accepts-store (a .side) store (a .unit .now)) (take 576 (a .hold .now)) (ap (λ (r : Took). r .side) e) (s .ensures .1) refl)
+    (keeps (s .result .side) (accepts (a .side) store (a .unit .now) .side) (s .last .1 .0) (a .hold .now) (accepts-store (a .side) store (a .unit .now)) (take 576 (a .hold .now)) (ap (λ (r : Took). r .side) e) (s .ensures .1 .0) refl)
     (c .before .before .put-plain .ensures)
 
 pub accept-spec : {M : Type 1} → statement M

@@ -4,7 +4,8 @@ use native.Mathlib.Omega.{arith}
 use lib.ListN.{take}
 use Rattle.sides.specs.Sides.{counts}
 use Rattle.sides.specs.declared.Side.{Side}
-use Rattle.lines.specs.Lines.{refuse, count-line}
+use Rattle.heads.specs.Heads.{refuse}
+use Rattle.lines.specs.Lines.{count-line}
 use Rattle.lines.proofs.Leaving.{keeps, leaves-stated}
 use borrow.Author.Needs.{needs}
 use Rattle.lines.proofs.count.Statement.{statement}

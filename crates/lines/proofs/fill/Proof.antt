@@ -3,7 +3,7 @@ use mathlib.Core.Path.{refl, sym, _∙_}
 use lib.ListN.{length, take}
 use borrow.Author.Tests.{not-true, not-false}
 use Rattle.text.specs.Text.{written}
-use Rattle.ends.proofs.Tests.{pick-true, pick-false}
+use Rattle.ends.proofs.Tests.{cond-true, cond-false}
 use Rattle.sides.specs.Sides.{fill-fits}
 use Rattle.lines.specs.Lines.{kept-in}
 use Rattle.lines.proofs.Leaving.{keeps, leaves-filled, leaves-unfilled}
@@ -29,10 +29,10 @@ returns c =
     let f = c .before .before .before .before .before .before .before .fill in
     let store = take (a .side .kept) (a .store .now) in
     let no = sym (f .ensures .0) ∙ not-true (f .result) (c .before .before .before .before .if1 .taken) in
-    leaves-unfilled (kept-in (a .side) (a .store .now) (a .hold .now)) (a .offset) (a .bytes .now) (c .before .before .bad .result .side) (f .last .1 .0) (a .hold .now) (a .out .now) (a .at) (c .before .before .bad .result .at) _ no
-    (keeps (c .before .before .bad .result .side) (a .side) (f .last .1 .0) (a .hold .now) store (take 576 (a .hold .now)) (c .before .before .bad .ensures .0)
-    (f .ensures .1 ∙ pick-false (fill-fits (a .side .kept) (a .offset) (length (a .bytes .now))) (written store (a .offset) (a .bytes .now)) store no) refl)
-    (c .before .before .bad .ensures .1)
+    leaves-unfilled (kept-in (a .side) (a .store .now) (a .hold .now)) (a .offset) (a .bytes .now) (a .side) (f .last .1 .0) (a .hold .now) (a .out .now) (a .at) (c .before .before .bad .result) _ no
+    (keeps (a .side) (a .side) (f .last .1 .0) (a .hold .now) store (take 576 (a .hold .now)) refl
+    (f .ensures .1 .0 ∙ cond-false (fill-fits (a .side .kept) (a .offset) (length (a .bytes .now))) (written store (a .offset) (a .bytes .now)) store no) refl)
+    (c .before .before .bad .ensures)
 
 slice-aggregate-put-plain : tie.Need-slice-aggregate-put-plain
 slice-aggregate-put-plain c = search needs
@@ -54,7 +54,7 @@ returns-2 c =
     let yes = sym (f .ensures .0) ∙ not-false (f .result) (c .before .before .before .before .before .before .if1 .left) in
     leaves-filled (kept-in (a .side) (a .store .now) (a .hold .now)) (a .offset) (a .bytes .now) (a .side) (f .last .1 .0) (a .hold .now) (a .out .now) (a .at) (c .before .before .put-plain .result) _ yes
     (keeps (a .side) (a .side) (f .last .1 .0) (a .hold .now) (written store (a .offset) (a .bytes .now)) (take 576 (a .hold .now)) refl
-    (f .ensures .1 ∙ pick-true (fill-fits (a .side .kept) (a .offset) (length (a .bytes .now))) (written store (a .offset) (a .bytes .now)) store yes) refl)
+    (f .ensures .1 .0 ∙ cond-true (fill-fits (a .side .kept) (a .offset) (length (a .bytes .now))) (written store (a .offset) (a .bytes .now)) store yes) refl)
     (c .before .before .put-plain .ensures)
 
 pub fill-spec : {M : Type 1} → statement M

@@ -4,7 +4,8 @@ use native.Mathlib.Omega.{arith}
 use lib.ListN.{take}
 use Rattle.sides.specs.Sides.{lends}
 use Rattle.sides.specs.declared.Side.{Side}
-use Rattle.lines.specs.Lines.{refuse, lend-line}
+use Rattle.heads.specs.Heads.{refuse}
+use Rattle.lines.specs.Lines.{lend-line}
 use Rattle.lines.proofs.Leaving.{keeps, leaves-stated}
 use borrow.Author.Needs.{needs}
 use Rattle.lines.proofs.lend.Statement.{statement}

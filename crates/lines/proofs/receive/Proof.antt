@@ -5,9 +5,10 @@ use lib.ListN.{take}
 use Rattle.text.proofs.Laws.{puts-more}
 use Rattle.sides.specs.Sides.{receives, receives-hold}
 use Rattle.sides.specs.declared.Received.{Received}
-use Rattle.lines.specs.Lines.{receive-head, receive-line}
+use Rattle.heads.specs.Heads.{receive-head}
+use Rattle.lines.specs.Lines.{receive-line}
 use Rattle.lines.proofs.Leaving.{keeps, leaves-stated}
-use Rattle.lines.proofs.Lengths.{receive-head-short}
+use Rattle.heads.proofs.Laws.{receive-head-short}
 use borrow.Author.Needs.{needs}
 use Rattle.lines.proofs.receive.Statement.{statement}
 use Rattle.lines.proofs.receive.Tie as tie
@@ -48,7 +49,7 @@ returns c =
     leaves-stated (receive-head (s .result .answer)) _ _ (s .result .side) (s .last .1 .1 .0) (s .last .1 .1 .1 .0) (a .out .now) (a .at) (c .before .before .put-side .result) _
     (ap (λ (r : Received). receive-head (r .answer)) e)
     (keeps (s .result .side) (receives (a .side) store hold (a .flit .now) .side) (s .last .1 .1 .0) (s .last .1 .1 .1 .0) store (receives-hold (a .side) store hold (a .flit .now)) (ap (λ (r : Received). r .side) e)
-    (s .ensures .1 .0) (s .ensures .1 .1))
+    (s .ensures .1 .0) (s .ensures .1 .1 .0))
     (puts-more (c .before .before .before .before .before .before .before .before .put-receive .ensures) (c .before .before .put-side .ensures))
 
 pub receive-spec : {M : Type 1} → statement M

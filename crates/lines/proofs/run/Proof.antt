@@ -5,9 +5,10 @@ use native.Mathlib.Nat.{sub-zero}
 use native.Mathlib.Omega.{arith}
 use lib.ListN.{take, length-take}
 use lib.Seq.{length-take-le}
+use Rattle.script.specs.Script.{within, bytes-in}
 use Rattle.script.specs.declared.Command.{Command}
-use Rattle.lines.specs.Lines.{kept-in, within, bytes-in, did, bad, accept-line, send-line, receive-line, fill-line, ticket-line}
-use Rattle.lines.proofs.Leaving.{keeps, leaves-bad, leaves-did}
+use Rattle.lines.specs.Lines.{kept-in, did, bad, accept-line, send-line, receive-line, fill-line, ticket-line}
+use Rattle.lines.proofs.Leaving.{leaves-bad, leaves-did}
 use borrow.Author.Needs.{needs}
 use Rattle.lines.proofs.run.Statement.{statement}
 use Rattle.lines.proofs.run.Tie as tie
@@ -126,8 +127,8 @@ lend-requires c κs = search needs
 enum-told-2 : tie.Need-enum-told-2
 enum-told-2 c = search needs
 
-ticket-requires : tie.Need-ticket-requires
-ticket-requires c κs = search needs
+put-ticket-requires : tie.Need-put-ticket-requires
+put-ticket-requires c κs = search needs
 
 enum-known-command-8 : tie.Need-enum-known-command-8
 enum-known-command-8 c = search needs
@@ -145,8 +146,7 @@ returns c =
     let k = kept-in (a .side) (a .store .now) (a .hold .now) in
     let r = c .before .before .bad in
     leaves-did k (a .bytes .now) (a .command) _ (bad k) (c .before .before .before .before .enum-told .given .1) refl
-    (leaves-bad k (r .result .side) (a .store .now) (a .hold .now) (a .out .now) (a .at) (r .result .at) _
-    (keeps (r .result .side) (a .side) (a .store .now) (a .hold .now) (take (a .side .kept) (a .store .now)) (take 576 (a .hold .now)) (r .ensures .0) refl refl) (r .ensures .1))
+    (leaves-bad k (a .side) (a .store .now) (a .hold .now) (a .out .now) (a .at) (r .result) _ refl (r .ensures))
 
 same-length-2 : tie.Need-same-length-2
 same-length-2 c = search needs
@@ -282,14 +282,10 @@ same-length-27 c = search needs
 returns-9 : tie.Need-returns-9
 unfolding did
 returns-9 c =
-    let a = c .before .before .before .before .before .before .before .before .before .before .args in
+    let a = c .before .before .before .before .before .before .before .before .before .before .before .args in
     let k = kept-in (a .side) (a .store .now) (a .hold .now) in
-    let r = c .before .before .ticket in
-    leaves-did k (a .bytes .now) (a .command) _ (record { kept = k; line = ticket-line (a .side) }) (c .before .before .before .before .enum-told2 .given .1) refl
-    (record {
-      kept = keeps (r .result .side) (a .side) (a .store .now) (a .hold .now) (take (a .side .kept) (a .store .now)) (take 576 (a .hold .now)) (r .ensures .0) refl refl;
-      line = r .ensures .1;
-    })
+    leaves-did k (a .bytes .now) (a .command) _ (record { kept = k; line = ticket-line (a .side) }) (c .before .before .before .before .before .enum-told2 .given .1) refl
+    (record { kept = refl; line = c .before .before .put-ticket .ensures })
 
 same-length-28 : tie.Need-same-length-28
 same-length-28 c = search needs
@@ -339,7 +335,7 @@ run-spec =
     enum-known-command-7
     lend-requires
     enum-told-2
-    ticket-requires
+    put-ticket-requires
     enum-known-command-8
     count-requires
     same-length

@@ -8,9 +8,11 @@ use Rattle.text.proofs.Laws.{puts-more}
 use Rattle.send.specs.Send.{flits-written}
 use Rattle.sides.specs.Sides.{sends}
 use Rattle.sides.specs.declared.Sent.{Sent}
-use Rattle.lines.specs.Lines.{send-head, send-line}
+use Rattle.heads.specs.Heads.{send-head}
+use Rattle.lines.specs.Lines.{send-line}
 use Rattle.lines.proofs.Leaving.{keeps, leaves-stated}
-use Rattle.lines.proofs.Lengths.{send-head-short, sent-inside}
+use Rattle.heads.proofs.Laws.{send-head-short}
+use Rattle.lines.proofs.Lengths.{sent-inside}
 use borrow.Author.Needs.{needs}
 use Rattle.lines.proofs.send.Statement.{statement}
 use Rattle.lines.proofs.send.Tie as tie
@@ -25,7 +27,7 @@ put-send-requires c κs =
     let s = c .before .before .before .before .before .before .before .send in
     let store = take (a .side .kept) (a .store .now) in
     let inside : flits-written (s .result .answer) * 64 ≤ length (a .output .now) =
-    subst (λ (r : Sent). flits-written (r .answer) * 64 ≤ length (a .output .now)) (sym (s .ensures .0)) (sent-inside (a .side) store (length (a .output .now))) in
+    subst (λ (r : Sent). flits-written (r .answer) * 64 ≤ length (a .output .now)) (sym (s .ensures .0)) (sent-inside (a .side) store (length (a .output .now)) .0) in
     (omega (arith, s .kept .1 .1 .1 .0, p .4), omega (arith, s .kept .1 .1 .1 .0), omega (arith, p .5))
 
 put-side-requires : tie.Need-put-side-requires
@@ -35,10 +37,12 @@ put-side-requires c κs =
     let p = c .before .before .before .before .before .before .before .before .before .before .before .before .before .before .before .before .before .before .before .pre in
     let s = c .before .before .before .before .before .before .before .before .before .before .before .before .send in
     let h = c .before .before .before .before .put-send .ensures in
+    let few : flits-written (s .result .answer) ≤ 10 =
+    subst (λ (r : Sent). flits-written (r .answer) ≤ 10) (sym (s .ensures .0)) (sent-inside (a .side) (take (a .side .kept) (a .store .now)) (length (a .output .now)) .1) in
     let k : s .result .side .kept ≡ a .side .kept = ap (λ (r : Sent). r .side .kept) (s .ensures .0) in (
       omega (arith, p .1 .kept, p .2, s .kept .1 .1 .0),
       p .3,
-      omega (arith, p .4, p .5, h .place, h .size, s .kept .1 .1 .1 .0, send-head-short (s .result .answer) (s .last .1 .1 .1 .0) (omega (arith, p .4, s .kept .1 .1 .1 .0))),
+      omega (arith, p .4, p .5, h .place, h .size, s .kept .1 .1 .1 .0, send-head-short (s .result .answer) (s .last .1 .1 .1 .0) (omega (arith, few))),
     )
 
 same-length : tie.Need-same-length
@@ -59,7 +63,7 @@ returns c =
     let store = take (a .side .kept) (a .store .now) in
     leaves-stated (send-head (s .result .answer) (s .last .1 .1 .1 .0)) _ _ (s .result .side) (s .last .1 .1 .0) (a .hold .now) (a .out .now) (a .at) (c .before .before .put-side .result) _
     (ap₂ (λ (r : Sent) (l : List ℕ). send-head (r .answer) l) e (s .ensures .1 .0))
-    (keeps (s .result .side) (sends (a .side) store (length (a .output .now)) .side) (s .last .1 .1 .0) (a .hold .now) store (take 576 (a .hold .now)) (ap (λ (r : Sent). r .side) e) (s .ensures .1 .1) refl)
+    (keeps (s .result .side) (sends (a .side) store (length (a .output .now)) .side) (s .last .1 .1 .0) (a .hold .now) store (take 576 (a .hold .now)) (ap (λ (r : Sent). r .side) e) (s .ensures .1 .1 .0) refl)
     (puts-more (c .before .before .before .before .before .before .before .put-send .ensures) (c .before .before .put-side .ensures))
 
 pub send-spec : {M : Type 1} → statement M

@@ -7,7 +7,8 @@ use Rattle.text.specs.Text.{ascii, decimal}
 use Rattle.ends.specs.State.{verdict-number}
 use Rattle.sides.specs.Sides.{repeated, started}
 use Rattle.sides.specs.declared.Took.{Took}
-use Rattle.lines.specs.Lines.{refuse, start-line}
+use Rattle.heads.specs.Heads.{refuse}
+use Rattle.lines.specs.Lines.{start-line}
 use Rattle.lines.proofs.Leaving.{keeps, leaves-stated}
 use borrow.Author.Needs.{needs}
 use Rattle.lines.proofs.start.Statement.{statement}
@@ -48,7 +49,7 @@ returns c =
     let e = s .ensures .0 in
     leaves-stated (ascii "start refuse=" ++ decimal (c .before .before .before .before .before .before .before .verdict-number .result)) _ _ (s .result .side) (s .last .0) (s .last .1 .0) (a .out .now) (a .at) (c .before .before .put-plain .result) _
     (ap (λ (n : ℕ). refuse "start refuse=" n) (c .before .before .before .before .before .before .before .verdict-number .ensures ∙ ap (λ (r : Took). verdict-number (r .verdict)) e))
-    (keeps (s .result .side) (started (a .bytes) .side) (s .last .0) (s .last .1 .0) (repeated (a .bytes) 0) (repeated 576 0) (ap (λ (r : Took). r .side) e) (s .ensures .1 .0) (s .ensures .1 .1))
+    (keeps (s .result .side) (started (a .bytes) .side) (s .last .0) (s .last .1 .0) (repeated (a .bytes) 0) (repeated 576 0) (ap (λ (r : Took). r .side) e) (s .ensures .1 .0) (s .ensures .1 .1 .0))
     (c .before .before .put-plain .ensures)
 
 pub start-spec : {M : Type 1} → statement M

@@ -1,14 +1,18 @@
-use mathlib.Core.Path.{_≡_, sym, ap, _∙_}
+use mathlib.Core.Path.{_≡_, sym, ap, ap₂, _∙_}
 use native.Mathlib.Omega.{arith}
 use borrow.Author.Needs.{needs}
 use lib.ListN.{length}
 use Rattle.crc.specs.Unit.{right}
+use Rattle.flits.specs.Fields.{fields-of}
 use Rattle.flits.specs.declared.Fields.{Fields}
+use Rattle.ends.specs.declared.state.End.{End}
 use Rattle.ends.specs.declared.state.Verdict.{Verdict}
 use Rattle.ends.proofs.Facts.{sound-is}
 use Rattle.arrivals.specs.Arrivals.{checked}
 use Rattle.answers.specs.Answers.{mode-answer}
+use Rattle.answers.specs.declared.Answer.{Answer}
 use Rattle.effects.specs.Effects.{end-after}
+use Rattle.receive.specs.declared.Received.{Received}
 use Rattle.receive.specs.Receive.{hold-after, answer-by, answer-to, receive, receive-hold}
 use Rattle.receive.proofs.Admission.{admission}
 use Rattle.receive.proofs.receive_with.Statement.{statement}
@@ -54,8 +58,12 @@ write-hold-requires c κs =
 returns : tie.Need-returns
 unfolding receive receive-hold answer-to end-after hold-after
 returns c =
+    let a = c .before .before .before .before .before .before .before .args in
     let v = sym (c .before .before .before .verdict .ensures) ∙ c .before .r .given .1 in
-    (simp v, simp v)
+    let x = ap (λ (z : Verdict). answer-by z (a .e) (a .hold .now) (a .flit .now)) v in (
+      sym (ap {B = Received} (λ (z : Answer). record { answer = z; end = end-after z (a .e) (a .store .now) (fields-of (a .flit .now)) }) x),
+      sym (ap (λ (z : Answer). hold-after z (a .e) (a .hold .now) (a .flit .now)) x),
+    )
 
 same-length : tie.Need-same-length
 same-length c = search needs
@@ -70,7 +78,11 @@ returns-2 c =
     c .before .before .before .before .before .answer-flit .ensures
     ∙ ap (λ (f : Fields). mode-answer (a .e .mode) (a .e) f correct) (c .before .before .before .before .before .before .before .fields .ensures)
     ∙ sym (ap (λ (z : Verdict). answer-by z (a .e) (a .hold .now) (a .flit .now)) v) in
-    (cc (c .before .before .before .before .end-after .ensures, c .before .before .before .before .before .before .before .fields .ensures, x), cc (c .before .before .write-hold .ensures, x))
+    let f = c .before .before .before .before .before .before .before .fields .ensures in
+    let n = c .before .before .before .before .end-after .ensures ∙ ap₂ (λ (z : Answer) (g : Fields). end-after z (a .e) (a .store .now) g) x f in (
+      ap₂ {C = Received} (λ (z : Answer) (e : End). record { answer = z; end = e }) x n,
+      c .before .before .write-hold .ensures ∙ ap (λ (z : Answer). hold-after z (a .e) (a .hold .now) (a .flit .now)) x,
+    )
 
 pub receive-with-spec : {M : Type 1} → statement M
 receive-with-spec =

@@ -4,14 +4,17 @@ use mathlib.Core.List.{List, [], _∷_}
 use mathlib.Core.Path.{_≡_, ap, sym, _∙_}
 use Prim.Native.Nat.{ℕ, _+_}
 use native.Mathlib.Nat.{sub-zero}
+use native.Mathlib.Omega.{arith}
 use lib.Dec.{ltb}
 use lib.ListN.{length, take, drop}
 use lib.Seq.{take-all}
 use borrow.Author.Tests.{ltb-false}
+use Rattle.tokens.specs.Tokens.{tokens, last, over}
+use Rattle.tokens.proofs.Cuts.{to-end, tokens-more, tokens-one}
+use Rattle.names.specs.declared.EndNamed.the-variants as an-end
+use Rattle.names.specs.Names.{end-of}
 use Rattle.script.specs.declared.Line.{Line}
-use Rattle.script.specs.declared.names.EndNamed.the-variants as an-end
-use Rattle.script.specs.Script.{tokens, last, end-of, command-of, for-end, line-from, carried, over}
-use Rattle.script.proofs.Cuts.{to-end, tokens-more, tokens-one}
+use Rattle.script.specs.Script.{command-of, for-end, line-from, carried}
 use Rattle.script.proofs.Lines.{line-nowhere, line-known, bad-over, line-carried, bare-carried}
 use borrow.Author.Needs.{needs}
 use Rattle.script.proofs.after_word.Statement.{statement}
@@ -21,13 +24,13 @@ first-token-requires : tie.Need-first-token-requires
 first-token-requires c κs = search needs
 
 sub-end-named : tie.Need-sub-end-named
-sub-end-named c = search needs
+sub-end-named c = omega arith
 
 part-end-named-start : tie.Need-part-end-named-start
-part-end-named-start c = search needs
+part-end-named-start c = omega arith
 
 part-end-named-end : tie.Need-part-end-named-end
-part-end-named-end c = search needs
+part-end-named-end c = omega arith
 
 end-named-requires : tie.Need-end-named-requires
 end-named-requires c κs = search needs
@@ -42,16 +45,16 @@ enum-known-e : tie.Need-enum-known-e
 enum-known-e c = search needs
 
 add-from : tie.Need-add-from
-add-from c = search needs
+add-from c = omega arith
 
 sub-arguments : tie.Need-sub-arguments
-sub-arguments c = search needs
+sub-arguments c = omega arith
 
 part-arguments-start : tie.Need-part-arguments-start
-part-arguments-start c = search needs
+part-arguments-start c = omega arith
 
 part-arguments-end : tie.Need-part-arguments-end
-part-arguments-end c = search needs
+part-arguments-end c = omega arith
 
 arguments-requires : tie.Need-arguments-requires
 arguments-requires c κs = search needs

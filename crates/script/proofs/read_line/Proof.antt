@@ -2,8 +2,10 @@
 use mathlib.Core.List.{[], _∷_}
 use mathlib.Core.Path.{sym}
 use native.Mathlib.Nat.{sub-zero}
-use Rattle.script.specs.Script.{last, line-of, bytes-of}
-use Rattle.script.proofs.Cuts.{to-end, tokens-more, tokens-one, last-tokens}
+use native.Mathlib.Omega.{arith}
+use Rattle.tokens.specs.Tokens.{last}
+use Rattle.tokens.proofs.Cuts.{to-end, tokens-more, tokens-one, last-tokens}
+use Rattle.script.specs.Script.{line-of, bytes-of}
 use Rattle.script.proofs.Lines.{line-bare, bad-over}
 use borrow.Author.Needs.{needs}
 use Rattle.script.proofs.read_line.Statement.{statement}
@@ -13,25 +15,25 @@ first-token-requires : tie.Need-first-token-requires
 first-token-requires c κs = search needs
 
 add-from : tie.Need-add-from
-add-from c = search needs
+add-from c = omega arith
 
 sub-after-word : tie.Need-sub-after-word
-sub-after-word c = search needs
+sub-after-word c = omega arith
 
 part-after-word-start : tie.Need-part-after-word-start
-part-after-word-start c = search needs
+part-after-word-start c = omega arith
 
 part-after-word-end : tie.Need-part-after-word-end
-part-after-word-end c = search needs
+part-after-word-end c = omega arith
 
 sub-after-word-2 : tie.Need-sub-after-word-2
-sub-after-word-2 c = search needs
+sub-after-word-2 c = omega arith
 
 part-after-word-start-2 : tie.Need-part-after-word-start-2
-part-after-word-start-2 c = search needs
+part-after-word-start-2 c = omega arith
 
 part-after-word-end-2 : tie.Need-part-after-word-end-2
-part-after-word-end-2 c = search needs
+part-after-word-end-2 c = omega arith
 
 after-word-requires : tie.Need-after-word-requires
 after-word-requires c κs = search needs

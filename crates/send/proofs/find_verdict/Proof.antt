@@ -5,7 +5,7 @@ use mathlib.Core.Path.{_≡_, sym, _∙_}
 use borrow.Author.Needs.{needs}
 use borrow.Author.Tests.{not-true, not-false}
 use lib.ListN.{length}
-use Rattle.ends.proofs.Tests.{pick-true}
+use Rattle.ends.proofs.Tests.{cond-true}
 use Rattle.ends.specs.Refusals.{store-is, sound, previous-run}
 use Rattle.send.proofs.Cases.{not-both, verdict-store, verdict-state, verdict-out, verdict-down, verdict-admitted}
 use Rattle.send.proofs.find_verdict.Statement.{statement}
@@ -72,7 +72,7 @@ returns-5 c =
     let d = c .before .before .before .before in
     let s = is-sound d in
     let v = verdict-admitted (a .e) (a .store .now) (a .output) (is-stored (d .before .before .before)) s (c .before .before .before .if3 .left) (sym (c .before .before .is-down .ensures) ∙ c .before .if4 .left) in
-    (sym v, λ h. d .before .before .judge .ensures .1 .0 ∙ pick-true (sound (a .e) (a .store .now)) (previous-run (a .e) (a .store .now)) 0 s)
+    (sym v, λ h. d .before .before .judge .ensures .1 .0 ∙ cond-true (sound (a .e) (a .store .now)) (previous-run (a .e) (a .store .now)) 0 s)
 
 pub find-verdict-spec : {M : Type 1} → statement M
 find-verdict-spec =

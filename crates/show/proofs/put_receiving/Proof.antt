@@ -5,7 +5,6 @@ use Prim.Native.Nat.{ℕ}
 use native.Mathlib.Omega.{arith}
 use Rattle.text.specs.Text.{ascii, decimal}
 use Rattle.text.proofs.Laws.{puts-more, puts-as}
-use Rattle.show.specs.Show.{receiving-part}
 use borrow.Author.Needs.{needs}
 use Rattle.show.proofs.put_receiving.Statement.{statement}
 use Rattle.show.proofs.put_receiving.Tie as tie
@@ -13,17 +12,11 @@ use Rattle.show.proofs.put_receiving.Tie as tie
 slice-aggregate-put-field : tie.Need-slice-aggregate-put-field
 slice-aggregate-put-field c = search needs
 
-cast-put-field : tie.Need-cast-put-field
-cast-put-field c = search needs
-
 put-field-requires : tie.Need-put-field-requires
 put-field-requires c κs = search needs
 
 slice-aggregate-put-field-2 : tie.Need-slice-aggregate-put-field-2
 slice-aggregate-put-field-2 c = search needs
-
-cast-put-field-2 : tie.Need-cast-put-field-2
-cast-put-field-2 c = let position = c .struct-known2 .given .1 .1 .1 .1 .1 .1 .1 .1 .1 .1 .1 .1 .1 .1 in omega arith
 
 put-field-requires-2 : tie.Need-put-field-requires-2
 put-field-requires-2 c κs = search needs
@@ -53,44 +46,29 @@ slice-aggregate-put-field-6 : tie.Need-slice-aggregate-put-field-6
 slice-aggregate-put-field-6 c = search needs
 
 put-field-requires-6 : tie.Need-put-field-requires-6
-put-field-requires-6 c κs =
-    let p1 = c .before .before .before .before .before .before .before .before .before .before .before .before .before .before .before .before .before .before .before .before .before .before .before .before .before .before .put-field .ensures in
-    let p2 = c .before .before .before .before .before .before .before .before .before .before .before .before .before .before .before .before .before .before .before .before .put-field2 .ensures in
-    let p3 = c .before .before .before .before .before .before .before .before .before .before .before .before .before .before .before .put-field3 .ensures in
-    let p4 = c .before .before .before .before .before .before .before .before .before .put-field4 .ensures in
-    let p5 = c .before .before .before .before .put-field5 .ensures in
-    omega (arith, c .before .before .before .before .before .before .before .before .before .before .before .before .before .before .before .before .before .before .before .before .before .before .before .before .before .before .before .before .before .before .before .pre, p5 .0 .size, p5 .1, p4 .0 .size, p4 .1, p3 .0 .size, p3 .1, p2 .0 .size, p2 .1, p1 .0 .size, p1 .1)
+put-field-requires-6 c κs = search needs
 
 same-length : tie.Need-same-length
-same-length c =
-    let p1 = c .before .before .before .before .before .before .before .before .before .before .before .before .before .before .before .before .before .before .before .before .before .before .before .before .before .before .before .before .before .put-field .ensures in
+same-length c = search needs
+
+returns : tie.Need-returns
+returns c =
+    let p1 = c .before .before .before .before .before .before .before .before .before .before .before .before .before .before .before .before .before .before .before .before .before .before .before .before .before .before .before .before .put-field .ensures in
     let p2 = c .before .before .before .before .before .before .before .before .before .before .before .before .before .before .before .before .before .before .before .before .before .before .before .put-field2 .ensures in
     let p3 = c .before .before .before .before .before .before .before .before .before .before .before .before .before .before .before .before .before .before .put-field3 .ensures in
     let p4 = c .before .before .before .before .before .before .before .before .before .before .before .before .put-field4 .ensures in
     let p5 = c .before .before .before .before .before .before .before .put-field5 .ensures in
     let p6 = c .before .before .put-field6 .ensures in
-    omega (arith, p1 .0 .size, p2 .0 .size, p3 .0 .size, p4 .0 .size, p5 .0 .size, p6 .0 .size)
-
-returns : tie.Need-returns
-unfolding receiving-part
-returns c =
-    let p1 = c .before .before .before .before .before .before .before .before .before .before .before .before .before .before .before .before .before .before .before .before .before .before .before .before .before .before .before .before .before .put-field .ensures .0 in
-    let p2 = c .before .before .before .before .before .before .before .before .before .before .before .before .before .before .before .before .before .before .before .before .before .before .before .put-field2 .ensures .0 in
-    let p3 = c .before .before .before .before .before .before .before .before .before .before .before .before .before .before .before .before .before .before .put-field3 .ensures .0 in
-    let p4 = puts-as (ap (λ (n : ℕ). ascii " stalled=" ++ decimal n) (c .before .before .before .before .before .before .before .before .before .before .before .before .before .mark .ensures)) (c .before .before .before .before .before .before .before .before .before .before .before .before .put-field4 .ensures .0) in
-    let p5 = c .before .before .before .before .before .before .before .put-field5 .ensures .0 in
-    let p6 = c .before .before .put-field6 .ensures .0 in
-    puts-more (puts-more (puts-more (puts-more (puts-more p1 p2) p3) p4) p5) p6
+    let q = puts-as (ap (λ (n : ℕ). ascii " stalled=" ++ decimal n) (c .before .before .before .before .before .before .before .before .before .before .before .before .before .mark .ensures)) (p4 .0) in
+    (puts-more (puts-more (puts-more (puts-more (puts-more (p1 .0) (p2 .0)) (p3 .0)) q) (p5 .0)) (p6 .0), omega (arith, p1 .1, p2 .1, p3 .1, p4 .1, p5 .1, p6 .1))
 
 pub put-receiving-spec : {M : Type 1} → statement M
 put-receiving-spec =
     tie.close
     (tie.spec
     slice-aggregate-put-field
-    cast-put-field
     put-field-requires
     slice-aggregate-put-field-2
-    cast-put-field-2
     put-field-requires-2
     slice-aggregate-put-field-3
     put-field-requires-3

@@ -1,6 +1,6 @@
 -- `show::put_ring` meets its contract: four fields, one after the other. Assumes nothing.
+use native.Mathlib.Omega.{arith}
 use Rattle.text.proofs.Laws.{puts-more}
-use Rattle.show.specs.Show.{ring-part}
 use borrow.Author.Needs.{needs}
 use Rattle.show.proofs.put_ring.Statement.{statement}
 use Rattle.show.proofs.put_ring.Tie as tie
@@ -33,13 +33,12 @@ same-length : tie.Need-same-length
 same-length c = search needs
 
 returns : tie.Need-returns
-unfolding ring-part
 returns c =
-    let p1 = c .before .before .before .before .before .before .before .before .before .before .before .before .before .before .before .before .before .put-field .ensures .0 in
-    let p2 = c .before .before .before .before .before .before .before .before .before .before .before .before .put-field2 .ensures .0 in
-    let p3 = c .before .before .before .before .before .before .before .put-field3 .ensures .0 in
-    let p4 = c .before .before .put-field4 .ensures .0 in
-    puts-more (puts-more (puts-more p1 p2) p3) p4
+    let p1 = c .before .before .before .before .before .before .before .before .before .before .before .before .before .before .before .before .before .put-field .ensures in
+    let p2 = c .before .before .before .before .before .before .before .before .before .before .before .before .put-field2 .ensures in
+    let p3 = c .before .before .before .before .before .before .before .put-field3 .ensures in
+    let p4 = c .before .before .put-field4 .ensures in
+    (puts-more (puts-more (puts-more (p1 .0) (p2 .0)) (p3 .0)) (p4 .0), omega (arith, p1 .1, p2 .1, p3 .1, p4 .1))
 
 pub put-ring-spec : {M : Type 1} → statement M
 put-ring-spec =

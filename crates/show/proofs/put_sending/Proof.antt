@@ -1,7 +1,6 @@
 -- `show::put_sending` meets its contract: four fields, one after the other. Assumes nothing.
 use native.Mathlib.Omega.{arith}
 use Rattle.text.proofs.Laws.{puts-more}
-use Rattle.show.specs.Show.{sending-part}
 use borrow.Author.Needs.{needs}
 use Rattle.show.proofs.put_sending.Statement.{statement}
 use Rattle.show.proofs.put_sending.Tie as tie
@@ -9,17 +8,11 @@ use Rattle.show.proofs.put_sending.Tie as tie
 slice-aggregate-put-field : tie.Need-slice-aggregate-put-field
 slice-aggregate-put-field c = search needs
 
-cast-put-field : tie.Need-cast-put-field
-cast-put-field c = search needs
-
 put-field-requires : tie.Need-put-field-requires
 put-field-requires c κs = search needs
 
 slice-aggregate-put-field-2 : tie.Need-slice-aggregate-put-field-2
 slice-aggregate-put-field-2 c = search needs
-
-cast-put-field-2 : tie.Need-cast-put-field-2
-cast-put-field-2 c = search needs
 
 put-field-requires-2 : tie.Need-put-field-requires-2
 put-field-requires-2 c κs = search needs
@@ -27,57 +20,37 @@ put-field-requires-2 c κs = search needs
 slice-aggregate-put-field-3 : tie.Need-slice-aggregate-put-field-3
 slice-aggregate-put-field-3 c = search needs
 
-cast-put-field-3 : tie.Need-cast-put-field-3
-cast-put-field-3 c = search needs
-
 put-field-requires-3 : tie.Need-put-field-requires-3
 put-field-requires-3 c κs = search needs
 
 slice-aggregate-put-field-4 : tie.Need-slice-aggregate-put-field-4
 slice-aggregate-put-field-4 c = search needs
 
-cast-put-field-4 : tie.Need-cast-put-field-4
-cast-put-field-4 c = search needs
-
 put-field-requires-4 : tie.Need-put-field-requires-4
-put-field-requires-4 c κs =
-    let p1 = c .before .before .before .before .before .before .before .before .before .before .before .before .before .before .before .before .before .put-field .ensures in
-    let p2 = c .before .before .before .before .before .before .before .before .before .before .before .put-field2 .ensures in
-    let p3 = c .before .before .before .before .before .put-field3 .ensures in
-    omega (arith, c .before .before .before .before .before .before .before .before .before .before .before .before .before .before .before .before .before .before .before .before .before .before .pre, p3 .0 .size, p3 .1, p2 .0 .size, p2 .1, p1 .0 .size, p1 .1)
+put-field-requires-4 c κs = search needs
 
 same-length : tie.Need-same-length
-same-length c =
-    let p1 = c .before .before .before .before .before .before .before .before .before .before .before .before .before .before .before .before .before .before .before .before .put-field .ensures in
-    let p2 = c .before .before .before .before .before .before .before .before .before .before .before .before .before .before .put-field2 .ensures in
-    let p3 = c .before .before .before .before .before .before .before .before .put-field3 .ensures in
-    let p4 = c .before .before .put-field4 .ensures in
-    omega (arith, p1 .0 .size, p2 .0 .size, p3 .0 .size, p4 .0 .size)
+same-length c = search needs
 
 returns : tie.Need-returns
-unfolding sending-part
 returns c =
-    let p1 = c .before .before .before .before .before .before .before .before .before .before .before .before .before .before .before .before .before .before .before .before .put-field .ensures .0 in
-    let p2 = c .before .before .before .before .before .before .before .before .before .before .before .before .before .before .put-field2 .ensures .0 in
-    let p3 = c .before .before .before .before .before .before .before .before .put-field3 .ensures .0 in
-    let p4 = c .before .before .put-field4 .ensures .0 in
-    puts-more (puts-more (puts-more p1 p2) p3) p4
+    let p1 = c .before .before .before .before .before .before .before .before .before .before .before .before .before .before .before .before .before .put-field .ensures in
+    let p2 = c .before .before .before .before .before .before .before .before .before .before .before .before .put-field2 .ensures in
+    let p3 = c .before .before .before .before .before .before .before .put-field3 .ensures in
+    let p4 = c .before .before .put-field4 .ensures in
+    (puts-more (puts-more (puts-more (p1 .0) (p2 .0)) (p3 .0)) (p4 .0), omega (arith, p1 .1, p2 .1, p3 .1, p4 .1))
 
 pub put-sending-spec : {M : Type 1} → statement M
 put-sending-spec =
     tie.close
     (tie.spec
     slice-aggregate-put-field
-    cast-put-field
     put-field-requires
     slice-aggregate-put-field-2
-    cast-put-field-2
     put-field-requires-2
     slice-aggregate-put-field-3
-    cast-put-field-3
     put-field-requires-3
     slice-aggregate-put-field-4
-    cast-put-field-4
     put-field-requires-4
     same-length
     returns)

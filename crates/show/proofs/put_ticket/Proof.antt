@@ -1,5 +1,4 @@
--- `show::put_ticket` meets its contract: five fields between a word and a line feed, one after the other. Assumes nothing.
-use native.Mathlib.Omega.{arith}
+-- `show::put_ticket` meets its contract: the counts between a word and a line feed. Assumes nothing.
 use Rattle.text.proofs.Laws.{puts-more}
 use Rattle.show.specs.Show.{ticket-text}
 use borrow.Author.Needs.{needs}
@@ -12,97 +11,22 @@ slice-aggregate-put c = search needs
 put-requires : tie.Need-put-requires
 put-requires c κs = search needs
 
-slice-aggregate-put-field : tie.Need-slice-aggregate-put-field
-slice-aggregate-put-field c = search needs
-
-cast-put-field : tie.Need-cast-put-field
-cast-put-field c = search needs
-
-put-field-requires : tie.Need-put-field-requires
-put-field-requires c κs = search needs
-
-slice-aggregate-put-field-2 : tie.Need-slice-aggregate-put-field-2
-slice-aggregate-put-field-2 c = search needs
-
-cast-put-field-2 : tie.Need-cast-put-field-2
-cast-put-field-2 c = search needs
-
-put-field-requires-2 : tie.Need-put-field-requires-2
-put-field-requires-2 c κs = search needs
-
-slice-aggregate-put-field-3 : tie.Need-slice-aggregate-put-field-3
-slice-aggregate-put-field-3 c = search needs
-
-cast-put-field-3 : tie.Need-cast-put-field-3
-cast-put-field-3 c = search needs
-
-put-field-requires-3 : tie.Need-put-field-requires-3
-put-field-requires-3 c κs = search needs
-
-slice-aggregate-put-field-4 : tie.Need-slice-aggregate-put-field-4
-slice-aggregate-put-field-4 c = search needs
-
-cast-put-field-4 : tie.Need-cast-put-field-4
-cast-put-field-4 c = search needs
-
-put-field-requires-4 : tie.Need-put-field-requires-4
-put-field-requires-4 c κs =
-    let p = c .before .before .before .before .before .before .before .before .before .before .before .before .before .before .before .before .before .before .before .before .before .before .before .put .ensures in
-    let p1 = c .before .before .before .before .before .before .before .before .before .before .before .before .before .before .before .before .before .put-field .ensures in
-    let p2 = c .before .before .before .before .before .before .before .before .before .before .before .put-field2 .ensures in
-    let p3 = c .before .before .before .before .before .put-field3 .ensures in
-    omega (arith, c .before .before .before .before .before .before .before .before .before .before .before .before .before .before .before .before .before .before .before .before .before .before .before .before .before .before .before .pre, p .place, p .size, p3 .0 .size, p3 .1, p2 .0 .size, p2 .1, p1 .0 .size, p1 .1)
-
-slice-aggregate-put-field-5 : tie.Need-slice-aggregate-put-field-5
-slice-aggregate-put-field-5 c = search needs
-
-cast-put-field-5 : tie.Need-cast-put-field-5
-cast-put-field-5 c = search needs
-
-put-field-requires-5 : tie.Need-put-field-requires-5
-put-field-requires-5 c κs =
-    let p = c .before .before .before .before .before .before .before .before .before .before .before .before .before .before .before .before .before .before .before .before .before .before .before .before .before .before .before .before .before .put .ensures in
-    let p1 = c .before .before .before .before .before .before .before .before .before .before .before .before .before .before .before .before .before .before .before .before .before .before .before .put-field .ensures in
-    let p2 = c .before .before .before .before .before .before .before .before .before .before .before .before .before .before .before .before .before .put-field2 .ensures in
-    let p3 = c .before .before .before .before .before .before .before .before .before .before .before .put-field3 .ensures in
-    let p4 = c .before .before .before .before .before .put-field4 .ensures in
-    omega (arith, c .before .before .before .before .before .before .before .before .before .before .before .before .before .before .before .before .before .before .before .before .before .before .before .before .before .before .before .before .before .before .before .before .before .pre, p .place, p .size, p4 .0 .size, p4 .1, p3 .0 .size, p3 .1, p2 .0 .size, p2 .1, p1 .0 .size, p1 .1)
+put-counts-requires : tie.Need-put-counts-requires
+put-counts-requires c κs = search needs
 
 slice-aggregate-put-2 : tie.Need-slice-aggregate-put-2
 slice-aggregate-put-2 c = search needs
 
 put-requires-2 : tie.Need-put-requires-2
-put-requires-2 c κs =
-    let p = c .before .before .before .before .before .before .before .before .before .before .before .before .before .before .before .before .before .before .before .before .before .before .before .before .before .before .before .before .before .before .before .before .before .before .put .ensures in
-    let p1 = c .before .before .before .before .before .before .before .before .before .before .before .before .before .before .before .before .before .before .before .before .before .before .before .before .before .before .before .before .put-field .ensures in
-    let p2 = c .before .before .before .before .before .before .before .before .before .before .before .before .before .before .before .before .before .before .before .before .before .before .put-field2 .ensures in
-    let p3 = c .before .before .before .before .before .before .before .before .before .before .before .before .before .before .before .before .put-field3 .ensures in
-    let p4 = c .before .before .before .before .before .before .before .before .before .before .put-field4 .ensures in
-    let p5 = c .before .before .before .before .put-field5 .ensures in
-    omega (arith, c .before .before .before .before .before .before .before .before .before .before .before .before .before .before .before .before .before .before .before .before .before .before .before .before .before .before .before .before .before .before .before .before .before .before .before .before .before .before .pre, p .place, p .size, p5 .0 .size, p5 .1, p4 .0 .size, p4 .1, p3 .0 .size, p3 .1, p2 .0 .size, p2 .1, p1 .0 .size, p1 .1)
+put-requires-2 c κs = search needs
 
 same-length : tie.Need-same-length
-same-length c =
-    let p = c .before .before .before .before .before .before .before .before .before .before .before .before .before .before .before .before .before .before .before .before .before .before .before .before .before .before .before .before .before .before .before .before .before .before .before .before .before .put .ensures in
-    let q = c .before .before .put2 .ensures in
-    let p1 = c .before .before .before .before .before .before .before .before .before .before .before .before .before .before .before .before .before .before .before .before .before .before .before .before .before .before .before .before .before .before .before .put-field .ensures in
-    let p2 = c .before .before .before .before .before .before .before .before .before .before .before .before .before .before .before .before .before .before .before .before .before .before .before .before .before .put-field2 .ensures in
-    let p3 = c .before .before .before .before .before .before .before .before .before .before .before .before .before .before .before .before .before .before .before .put-field3 .ensures in
-    let p4 = c .before .before .before .before .before .before .before .before .before .before .before .before .before .put-field4 .ensures in
-    let p5 = c .before .before .before .before .before .before .before .put-field5 .ensures in
-    omega (arith, p .size, q .size, p1 .0 .size, p2 .0 .size, p3 .0 .size, p4 .0 .size, p5 .0 .size)
+same-length c = search needs
 
 returns : tie.Need-returns
 unfolding ticket-text
 returns c =
-    let p1 = c .before .before .before .before .before .before .before .before .before .before .before .before .before .before .before .before .before .before .before .before .before .before .before .before .before .before .before .before .before .before .before .before .before .before .before .before .before .put .ensures in
-    let p2 = c .before .before .before .before .before .before .before .before .before .before .before .before .before .before .before .before .before .before .before .before .before .before .before .before .before .before .before .before .before .before .before .put-field .ensures .0 in
-    let p3 = c .before .before .before .before .before .before .before .before .before .before .before .before .before .before .before .before .before .before .before .before .before .before .before .before .before .put-field2 .ensures .0 in
-    let p4 = c .before .before .before .before .before .before .before .before .before .before .before .before .before .before .before .before .before .before .before .put-field3 .ensures .0 in
-    let p5 = c .before .before .before .before .before .before .before .before .before .before .before .before .before .put-field4 .ensures .0 in
-    let p6 = c .before .before .before .before .before .before .before .put-field5 .ensures .0 in
-    let p7 = c .before .before .put2 .ensures in
-    puts-more (puts-more (puts-more (puts-more (puts-more (puts-more p1 p2) p3) p4) p5) p6) p7
+    puts-more (puts-more (c .before .before .before .before .before .before .before .before .before .before .before .put .ensures) (c .before .before .before .before .before .before .before .put-counts .ensures .0)) (c .before .before .put2 .ensures)
 
 pub put-ticket-spec : {M : Type 1} → statement M
 put-ticket-spec =
@@ -110,21 +34,7 @@ put-ticket-spec =
     (tie.spec
     slice-aggregate-put
     put-requires
-    slice-aggregate-put-field
-    cast-put-field
-    put-field-requires
-    slice-aggregate-put-field-2
-    cast-put-field-2
-    put-field-requires-2
-    slice-aggregate-put-field-3
-    cast-put-field-3
-    put-field-requires-3
-    slice-aggregate-put-field-4
-    cast-put-field-4
-    put-field-requires-4
-    slice-aggregate-put-field-5
-    cast-put-field-5
-    put-field-requires-5
+    put-counts-requires
     slice-aggregate-put-2
     put-requires-2
     same-length

@@ -1,13 +1,11 @@
 -- `sides::accept` meets its contract: accept with what is lent of the store, and the ticket after it. Assumes nothing.
-use mathlib.Core.List.{List}
-use mathlib.Core.Path.{ap, _∙_}
-use Prim.Native.Nat.{ℕ, _-_}
+use mathlib.Core.Path.{sym, ap, _∙_}
+use Prim.Native.Nat.{_-_}
 use native.Mathlib.Omega.{arith}
-use lib.ListN.{take}
-use Rattle.accept.specs.Accept.{accept-store}
+use lib.ListN.{length, take}
 use Rattle.sides.specs.Sides.{accepts-store}
-use Rattle.sides.proofs.Lent.{lent-part, back-part}
-use Rattle.sides.proofs.Calls.{accepted-is}
+use Rattle.sides.proofs.Lent.{length-lent, lent-part, over-part, back-part}
+use Rattle.sides.proofs.Calls.{accepted-is, stored-is}
 use borrow.Author.Needs.{needs}
 use Rattle.sides.proofs.accept.Statement.{statement}
 use Rattle.sides.proofs.accept.Tie as tie
@@ -30,8 +28,8 @@ accept-requires c κs = search needs
 after-accept-requires : tie.Need-after-accept-requires
 after-accept-requires c κs = search needs
 
-after-call-requires : tie.Need-after-call-requires
-after-call-requires c κs = search needs
+took-with-requires : tie.Need-took-with-requires
+took-with-requires c κs = search needs
 
 same-length : tie.Need-same-length
 same-length c = search needs
@@ -39,16 +37,18 @@ same-length c = search needs
 returns : tie.Need-returns
 unfolding accepts-store
 returns c =
-    let a = c .before .before .before .before .before .before .before .before .before .before .before .before .before .args in
-    let cleared = c .before .before .before .before .before .before .before .before .before .clear-past in
-    let p = c .before .before .before .before .before .before .before .before .before .before .before .before .before .pre in
-    let called = c .before .before .before .before .before .accept in
+    let a = c .before .before .before .before .before .before .before .before .before .before .before .before .args in
+    let p = c .before .before .before .before .before .before .before .before .before .before .before .before .pre in
+    let cleared = c .before .before .before .before .before .before .before .before .clear-past in
+    let called = c .before .before .before .before .accept in
     let store = take (a .side .kept) (a .store .now) in
-    let l = lent-part (cleared .last .0) store (a .side .store) (cleared .ensures .0) in (
-      accepted-is (a .side) (c .after-call .result) store (take (a .side .store - 0) (cleared .last .0)) l (a .unit .now) (called .result) (c .before .after-accept .result)
-          (called .ensures .0) (c .before .after-accept .ensures) (c .after-call .ensures),
-      back-part (cleared .last .0) (called .last .1 .0) store (accept-store (a .side .end) _ (a .unit .now)) (a .side .store) (a .side .kept) (omega (arith, cleared .kept .0, p)) (omega (arith, cleared .kept .0, p))
-          (called .kept .1 .0) (cleared .ensures .1) (called .ensures .1 ∙ ap (λ (x : List ℕ). accept-store (a .side .end) x (a .unit .now)) l),
+    let l = lent-part (cleared .last .0) (a .store .now) store (a .side .store) (cleared .ensures .0) in
+    let left = stored-is (a .side) store (take (a .side .store - 0) (cleared .last .0)) l (a .unit .now) (called .last .1 .0) (called .ensures .1) in
+    let whole = over-part (cleared .last .0) (a .store .now) store (called .last .1 .0) _ (a .side .store) (cleared .ensures .0) (called .kept .1 .0) left in
+    let lent-length = sym (ap length left) ∙ called .kept .1 .0 ∙ ap length l ∙ length-lent (a .side .store) store in (
+      accepted-is (a .side) store (take (a .side .store - 0) (cleared .last .0)) l (a .unit .now) (called .result) (c .before .after-accept .result) (c .took-with .result)
+          (called .ensures .0) (c .before .after-accept .ensures) (c .took-with .ensures),
+      (ap (take (a .side .kept)) whole ∙ back-part (a .store .now) _ (a .side .kept) (p .0) (omega (arith, lent-length, p .1)), whole),
     )
 
 pub accept-spec : {M : Type 1} → statement M
@@ -61,6 +61,6 @@ accept-spec =
     part-accept-end
     accept-requires
     after-accept-requires
-    after-call-requires
+    took-with-requires
     same-length
     returns)

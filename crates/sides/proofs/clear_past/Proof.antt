@@ -3,7 +3,7 @@ use mathlib.Core.Path.{refl}
 use native.Mathlib.Omega.{arith}
 use borrow.Rule.Slice.PartMut.{take-put}
 use Prim.Native.Nat.{_-_}
-use Rattle.sides.proofs.Lent.{lent-longer, lent-shorter}
+use Rattle.sides.proofs.Lent.{cleared-longer, cleared-shorter}
 use borrow.Author.Needs.{needs}
 use Rattle.sides.proofs.clear_past.Statement.{statement}
 use Rattle.sides.proofs.clear_past.Tie as tie
@@ -27,14 +27,14 @@ returns : tie.Need-returns
 returns c =
     let a = c .before .before .before .before .before .before .args in
     let f = c .before .before .fill-with in (
-      lent-longer (a .buffer .now) (f .last .0) (a .kept) (a .lent) (omega arith) (omega arith) (f .ensures),
+      cleared-longer (a .buffer .now) (f .last .0) (a .kept) (a .lent) (omega arith) (omega arith) (f .ensures),
       take-put (a .kept) (a .lent - a .kept) (a .buffer .now) (f .last .0) (omega arith),
     )
 
 returns-2 : tie.Need-returns-2
 returns-2 c =
     let a = c .before .before .args in
-    (lent-shorter (a .buffer .now) (a .kept) (a .lent) (omega arith) (omega arith), refl)
+    (cleared-shorter (a .buffer .now) (a .kept) (a .lent) (omega arith) (omega arith), refl)
 
 pub clear-past-spec : {M : Type 1} → statement M
 clear-past-spec =

@@ -15,7 +15,7 @@ after-call-requires c κs = search needs
 returns : tie.Need-returns
 unfolding counts
 returns c =
-    let a = c .before .before .before .args in
+    let a = c .before .before .args in
     c .after-call .ensures ∙ ap (λ (t : Ticket). after-call (a .side) (a .side .end) t) (c .before .with-count .ensures)
 
 pub count-spec : {M : Type 1} → statement M

@@ -1,7 +1,5 @@
 -- `sides::fill` meets its contract. Assumes nothing.
 use native.Mathlib.Omega.{arith}
-use Prim.Native.Nat.{_-_}
-use lib.ListN.{take}
 use Rattle.sides.proofs.Lent.{fill-none, fill-not, fill-does}
 use borrow.Author.Needs.{needs}
 use Rattle.sides.proofs.fill.Statement.{statement}
@@ -10,17 +8,17 @@ use Rattle.sides.proofs.fill.Tie as tie
 returns : tie.Need-returns
 returns c =
     let a = c .before .before .before .args in
-    fill-none (take (a .kept) (a .store .now)) (a .kept) (a .offset) (a .bytes .now) (c .if1 .taken)
+    fill-none (a .store .now) (a .kept) (a .offset) (a .bytes .now) (omega arith) (c .if1 .taken)
 
 returns-2 : tie.Need-returns-2
 returns-2 c =
     let a = c .before .before .before .before .args in
-    fill-not (take (a .kept) (a .store .now)) (a .kept) (a .offset) (a .bytes .now) (c .before .if1 .left) (omega arith)
+    fill-not (a .store .now) (a .kept) (a .offset) (a .bytes .now) (c .before .if1 .left) (omega arith)
 
 returns-3 : tie.Need-returns-3
 returns-3 c =
     let a = c .before .before .before .before .before .args in
-    fill-not (take (a .kept) (a .store .now)) (a .kept) (a .offset) (a .bytes .now) (c .before .before .if1 .left) (omega arith)
+    fill-not (a .store .now) (a .kept) (a .offset) (a .bytes .now) (c .before .before .if1 .left) (omega arith)
 
 sub-put : tie.Need-sub-put
 sub-put c = search needs
@@ -41,7 +39,7 @@ returns-4 : tie.Need-returns-4
 returns-4 c =
     let a = c .before .before .before .before .before .before .before .before .before .args in
     let p = c .before .before .put in
-    fill-does (a .store .now) (a .kept) (a .offset) (a .bytes .now) (p .last .0) (a .kept - 0) (omega arith) (omega arith) (c .before .before .before .before .before .before .if1 .left) (omega arith) (p .ensures .bytes)
+    fill-does (a .store .now) (a .kept) (a .offset) (a .bytes .now) (p .last .0) (omega arith) (c .before .before .before .before .before .before .if1 .left) (omega arith) (p .ensures .bytes)
 
 pub fill-spec : {M : Type 1} → statement M
 fill-spec =

@@ -15,8 +15,8 @@ after-call-requires c κs = search needs
 returns : tie.Need-returns
 unfolding pokes
 returns c =
-    let a = c .before .before .before .args in
-    c .after-call .ensures ∙ ap (λ (e : End). after-call (a .side) e (a .side .ticket)) (c .before .before .poked .ensures)
+    let a = c .before .before .args in
+    c .after-call .ensures ∙ ap (λ (e : End). after-call (a .side) e (a .side .ticket)) (c .before .poked .ensures)
 
 pub poke-spec : {M : Type 1} → statement M
 poke-spec = tie.close (tie.spec poked-requires after-call-requires returns)

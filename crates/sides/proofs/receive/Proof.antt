@@ -1,14 +1,12 @@
 -- `sides::receive` meets its contract: receive with what is lent of the store and of the hold, and the ticket after it. Assumes nothing.
-use mathlib.Core.List.{List}
-use mathlib.Core.Path.{ap₂, _∙_}
-use Prim.Native.Nat.{ℕ, _-_}
+use mathlib.Core.Path.{sym, ap, _∙_}
+use Prim.Native.Nat.{_-_}
 use native.Mathlib.Omega.{arith}
 use borrow.Rule.Slice.PartMut.{same-len-mid}
-use lib.ListN.{take}
-use Rattle.receive.specs.Receive.{receive-hold}
+use lib.ListN.{length, take}
 use Rattle.sides.specs.Sides.{receives-hold}
-use Rattle.sides.proofs.Lent.{lent-part, back-part}
-use Rattle.sides.proofs.Calls.{received-is}
+use Rattle.sides.proofs.Lent.{length-lent, lent-part, over-part, back-part}
+use Rattle.sides.proofs.Calls.{received-is, held-is}
 use borrow.Author.Needs.{needs}
 use Rattle.sides.proofs.receive.Statement.{statement}
 use Rattle.sides.proofs.receive.Tie as tie
@@ -43,37 +41,40 @@ receive-with-requires c κs = search needs
 after-receive-requires : tie.Need-after-receive-requires
 after-receive-requires c κs = search needs
 
-after-call-requires : tie.Need-after-call-requires
-after-call-requires c κs = search needs
+received-with-requires : tie.Need-received-with-requires
+received-with-requires c κs = search needs
 
 same-length : tie.Need-same-length
-same-length c = c .before .before .before .before .before .before .before .before .before .before .before .before .before .before .before .clear-past .kept .0
+same-length c = c .before .before .before .before .before .before .before .before .before .before .before .before .before .before .clear-past .kept .0
 
 same-length-2 : tie.Need-same-length-2
 same-length-2 c =
-    let a = c .before .before .before .before .before .before .before .before .before .before .before .before .before .before .before .before .before .before .before .before .args in
-    let cleared = c .before .before .before .before .before .before .before .before .before .before .before .clear-past2 in
-    let called = c .before .before .before .before .before .receive-with in
+    let a = c .before .before .before .before .before .before .before .before .before .before .before .before .before .before .before .before .before .before .before .args in
+    let cleared = c .before .before .before .before .before .before .before .before .before .before .clear-past2 in
+    let called = c .before .before .before .before .receive-with in
     same-len-mid 0 (a .side .hold - 0) (cleared .last .0) (called .last .1 .1 .1 .0) (called .kept .1 .1 .1 .0) ∙ cleared .kept .0
 
 returns : tie.Need-returns
 unfolding receives-hold
 returns c =
-    let a = c .before .before .before .before .before .before .before .before .before .before .before .before .before .before .before .before .before .before .before .before .args in
-    let p = c .before .before .before .before .before .before .before .before .before .before .before .before .before .before .before .before .before .before .before .before .pre in
-    let of-store = c .before .before .before .before .before .before .before .before .before .before .before .before .before .before .before .clear-past in
-    let of-hold = c .before .before .before .before .before .before .before .before .before .before .before .clear-past2 in
-    let called = c .before .before .before .before .before .receive-with in
+    let a = c .before .before .before .before .before .before .before .before .before .before .before .before .before .before .before .before .before .before .before .args in
+    let p = c .before .before .before .before .before .before .before .before .before .before .before .before .before .before .before .before .before .before .before .pre in
+    let of-store = c .before .before .before .before .before .before .before .before .before .before .before .before .before .before .clear-past in
+    let of-hold = c .before .before .before .before .before .before .before .before .before .before .clear-past2 in
+    let called = c .before .before .before .before .receive-with in
     let store = take (a .side .kept) (a .store .now) in
     let hold = take 576 (a .hold .now) in
-    let l = lent-part (of-store .last .0) store (a .side .store) (of-store .ensures .0) in
-    let m = lent-part (of-hold .last .0) hold (a .side .hold) (of-hold .ensures .0) in (
-      received-is (a .side) (c .after-call .result) store (take (a .side .store - 0) (of-store .last .0)) l hold (take (a .side .hold - 0) (of-hold .last .0)) (a .flit .now) (called .result)
-          (c .before .after-receive .result) m (called .ensures .0) (c .before .after-receive .ensures) (c .after-call .ensures),
+    let l = lent-part (of-store .last .0) (a .store .now) store (a .side .store) (of-store .ensures .0) in
+    let m = lent-part (of-hold .last .0) (a .hold .now) hold (a .side .hold) (of-hold .ensures .0) in
+    let left =
+    held-is (a .side) store (take (a .side .store - 0) (of-store .last .0)) l hold (take (a .side .hold - 0) (of-hold .last .0)) (a .flit .now) (called .last .1 .1 .1 .0) m (called .ensures .1) in
+    let whole = over-part (of-hold .last .0) (a .hold .now) hold (called .last .1 .1 .1 .0) _ (a .side .hold) (of-hold .ensures .0) (called .kept .1 .1 .1 .0) left in
+    let lent-length = sym (ap length left) ∙ called .kept .1 .1 .1 .0 ∙ ap length m ∙ length-lent (a .side .hold) hold in (
+      received-is (a .side) store (take (a .side .store - 0) (of-store .last .0)) l hold (take (a .side .hold - 0) (of-hold .last .0)) (a .flit .now) (called .result) (c .before .after-receive .result)
+          (c .received-with .result) m (called .ensures .0) (c .before .after-receive .ensures) (c .received-with .ensures),
       (
         of-store .ensures .1,
-        back-part (of-hold .last .0) (called .last .1 .1 .1 .0) hold (receive-hold (a .side .end) _ _ (a .flit .now)) (a .side .hold) 576 (omega (arith, of-hold .kept .0, p .3)) (omega (arith, of-hold .kept .0, p .4))
-            (called .kept .1 .1 .1 .0) (of-hold .ensures .1) (called .ensures .1 ∙ ap₂ (λ (x y : List ℕ). receive-hold (a .side .end) x y (a .flit .now)) l m),
+        (ap (take 576) whole ∙ back-part (a .hold .now) _ 576 (p .3) (omega (arith, lent-length, p .4)), (of-store .ensures .0, whole)),
       ),
     )
 
@@ -91,7 +92,7 @@ receive-spec =
     part-receive-with-end-2
     receive-with-requires
     after-receive-requires
-    after-call-requires
+    received-with-requires
     same-length
     same-length-2
     returns)

@@ -1,12 +1,8 @@
 -- `sides::send` meets its contract: send with what is lent of the store, and an output of bytes 165. Assumes nothing.
-use mathlib.Core.List.{List}
-use mathlib.Core.Path.{ap₂, _∙_}
-use Prim.Native.Nat.{ℕ, _-_}
+use Prim.Native.Nat.{_-_}
 use lib.ListN.{length, take}
-use Rattle.send.specs.Send.{send-output}
-use Rattle.sides.specs.Sides.{sends-output}
 use Rattle.sides.proofs.Lent.{lent-part}
-use Rattle.sides.proofs.Calls.{sent-is}
+use Rattle.sides.proofs.Calls.{sent-is, sent-output-is}
 use borrow.Author.Needs.{needs}
 use Rattle.sides.proofs.send.Statement.{statement}
 use Rattle.sides.proofs.send.Tie as tie
@@ -29,27 +25,30 @@ part-send-with-end c = search needs
 send-with-requires : tie.Need-send-with-requires
 send-with-requires c κs = search needs
 
-after-call-requires : tie.Need-after-call-requires
-after-call-requires c κs = search needs
+sent-with-requires : tie.Need-sent-with-requires
+sent-with-requires c κs = search needs
 
 same-length : tie.Need-same-length
-same-length c = c .before .before .before .before .before .before .before .before .before .before .before .before .before .before .before .clear-past .kept .0
+same-length c = c .before .before .before .before .before .before .before .before .before .before .before .before .before .clear-past .kept .0
 
 same-length-2 : tie.Need-same-length-2
 same-length-2 c = search needs
 
 returns : tie.Need-returns
-unfolding sends-output
 returns c =
-    let a = c .before .before .before .before .before .before .before .before .before .before .before .before .before .before .before .before .before .before .before .args in
-    let cleared = c .before .before .before .before .before .before .before .before .before .before .before .before .before .before .before .clear-past in
-    let filled = c .before .before .before .before .before .before .before .before .before .before .before .fill-with in
-    let called = c .before .before .before .before .before .send-with in
+    let a = c .before .before .before .before .before .before .before .before .before .before .before .before .before .before .before .before .before .args in
+    let cleared = c .before .before .before .before .before .before .before .before .before .before .before .before .before .clear-past in
+    let filled = c .before .before .before .before .before .before .before .before .before .fill-with in
+    let called = c .before .before .before .send-with in
     let store = take (a .side .kept) (a .store .now) in
-    let l = lent-part (cleared .last .0) store (a .side .store) (cleared .ensures .0) in (
-      sent-is (a .side) (c .after-call .result) store (take (a .side .store - 0) (cleared .last .0)) l (length (a .output .now)) (length (filled .last .0)) (called .result)
-          (filled .kept .0) (called .ensures .0) (c .after-call .ensures),
-      (called .ensures .1 ∙ ap₂ (λ (x y : List ℕ). send-output (a .side .end) x y (a .errors) (a .information)) l (filled .ensures), cleared .ensures .1),
+    let l = lent-part (cleared .last .0) (a .store .now) store (a .side .store) (cleared .ensures .0) in (
+      sent-is (a .side) store (take (a .side .store - 0) (cleared .last .0)) l (length (a .output .now)) (length (filled .last .0)) (called .result) (c .sent-with .result)
+          (filled .kept .0) (called .ensures .0) (c .sent-with .ensures),
+      (
+        sent-output-is (a .side) store (take (a .side .store - 0) (cleared .last .0)) l (length (a .output .now)) (a .errors) (a .information) (filled .last .0) (called .last .1 .1 .1 .0) (filled .ensures)
+            (called .ensures .1),
+        (cleared .ensures .1, cleared .ensures .0),
+      ),
     )
 
 pub send-spec : {M : Type 1} → statement M
@@ -62,7 +61,7 @@ send-spec =
     part-send-with-start
     part-send-with-end
     send-with-requires
-    after-call-requires
+    sent-with-requires
     same-length
     same-length-2
     returns)

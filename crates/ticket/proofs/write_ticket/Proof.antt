@@ -6,7 +6,7 @@ use native.Mathlib.Omega.{arith}
 use lib.ListN.{length, length-take}
 use borrow.Author.Tests.{le-leb, lt-leb}
 use Rattle.text.proofs.Laws.{puts-start}
-use Rattle.ends.proofs.Tests.{pick-true, pick-false}
+use Rattle.ends.proofs.Tests.{cond-true, cond-false}
 use Rattle.text.specs.Text.{Puts, written}
 use Rattle.ticket.specs.declared.Ticket.{Ticket}
 use Rattle.ticket.specs.declared.Output.the-variants.{Written, Short}
@@ -22,8 +22,8 @@ fits : (t : Ticket) (out made after : List ℕ) (bytes next : ℕ) → bytes ≡
 unfolding answer-for output
 fits t out made after bytes next n m h p =
     let b = le-leb (length (text t)) (length out) (omega arith) in (
-      ap Written n ∙ sym (pick-true _ _ _ b),
-      p .bytes ∙ ap (written out 0) m ∙ sym (pick-true _ _ _ b),
+      ap Written n ∙ sym (cond-true _ _ _ b),
+      p .bytes ∙ ap (written out 0) m ∙ sym (cond-true _ _ _ b),
     )
 
 short : (t : Ticket) (out : List ℕ) (bytes : ℕ) → bytes ≡ length (text t) → length out < bytes
@@ -31,7 +31,7 @@ short : (t : Ticket) (out : List ℕ) (bytes : ℕ) → bytes ≡ length (text t
 unfolding answer-for output
 short t out bytes n h =
     let b = lt-leb (length (text t)) (length out) (omega arith) in
-    (sym (pick-false _ _ _ b), sym (pick-false _ _ _ b))
+    (sym (cond-false _ _ _ b), sym (cond-false _ _ _ b))
 
 slice-aggregate-put-ticket : tie.Need-slice-aggregate-put-ticket
 slice-aggregate-put-ticket c = search needs

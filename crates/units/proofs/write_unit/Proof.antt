@@ -9,7 +9,7 @@ use lib.Dec.{ltb}
 use lib.ListN.{drop}
 use Rattle.flits.specs.Bytes.{read}
 use Rattle.flits.specs.Fields.{content, run-length}
-use Rattle.flits.specs.Flits.{control-told}
+use Rattle.compose.specs.Flits.{control-told}
 use Rattle.ends.proofs.Parts.{flit-is}
 use Rattle.ends.specs.Refusals.{cursor-at}
 use Rattle.ends.specs.Ring.{flit-at, place}

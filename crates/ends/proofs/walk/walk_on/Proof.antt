@@ -8,7 +8,7 @@ use lib.Dec.{eqb}
 use Rattle.ends.specs.Ring.{begun, walk}
 use Rattle.ends.specs.declared.walk.Walk.{Walk}
 use Rattle.ends.proofs.Parts.{flit-is}
-use Rattle.ends.proofs.Walks.{walk-step, walk-data}
+use Rattle.ends.proofs.Walks.{one-more, walk-data}
 use Rattle.ends.proofs.walk.walk_on.Statement.{statement}
 use Rattle.ends.proofs.walk.walk_on.Tie as tie
 
@@ -111,13 +111,7 @@ loop-again c =
           c .before .before .past-data2 .ensures ∙ ap (λ (w : Walk). past w (w .left)) v
           ∙ sym (walk-data (a .e .capacity .0) (a .e .first) o (a .store .now) (l .n) (W (l .n) .left) (omega arith))
           ∙ ap W here in
-          cc (
-            c .before .passed .ensures,
-            f,
-            c .before .before .before .before .place .ensures .0,
-            at-control,
-            walk-step (a .e .capacity .0) (a .e .first) o (a .store .now) (j .if1 .n),
-          ),
+          one-more (a .e .capacity .0) (a .e .first) o (a .store .now) (j .if1 .n) p _ _ _ (c .before .passed .ensures) f (c .before .before .before .before .place .ensures .0) at-control,
     )
 
 returns-2 : tie.Need-returns-2 Inv-loop μ-loop

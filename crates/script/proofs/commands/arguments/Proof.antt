@@ -1,6 +1,7 @@
 -- `script::commands::arguments` meets its contract: it has one argument or more. Assumes nothing.
 use native.Mathlib.Nat.{sub-zero}
-use Rattle.script.proofs.Cuts.{to-end, tokens-more, tokens-one, last-one, last-tokens}
+use native.Mathlib.Omega.{arith}
+use Rattle.tokens.proofs.Cuts.{to-end, tokens-more, tokens-one, last-one, last-tokens}
 use borrow.Author.Needs.{needs}
 use Rattle.script.proofs.commands.arguments.Statement.{statement}
 use Rattle.script.proofs.commands.arguments.Tie as tie
@@ -9,25 +10,25 @@ first-token-requires : tie.Need-first-token-requires
 first-token-requires c κs = search needs
 
 add-from : tie.Need-add-from
-add-from c = search needs
+add-from c = omega arith
 
 sub-more-arguments : tie.Need-sub-more-arguments
-sub-more-arguments c = search needs
+sub-more-arguments c = omega arith
 
 part-more-arguments-start : tie.Need-part-more-arguments-start
-part-more-arguments-start c = search needs
+part-more-arguments-start c = omega arith
 
 part-more-arguments-end : tie.Need-part-more-arguments-end
-part-more-arguments-end c = search needs
+part-more-arguments-end c = omega arith
 
 sub-more-arguments-2 : tie.Need-sub-more-arguments-2
-sub-more-arguments-2 c = search needs
+sub-more-arguments-2 c = omega arith
 
 part-more-arguments-start-2 : tie.Need-part-more-arguments-start-2
-part-more-arguments-start-2 c = search needs
+part-more-arguments-start-2 c = omega arith
 
 part-more-arguments-end-2 : tie.Need-part-more-arguments-end-2
-part-more-arguments-end-2 c = search needs
+part-more-arguments-end-2 c = omega arith
 
 more-arguments-requires : tie.Need-more-arguments-requires
 more-arguments-requires c κs = search needs

@@ -1,7 +1,8 @@
 -- `script::commands::count` meets its contract, by the key and the test. Assumes nothing.
 use mathlib.Core.Path.{sym, _∙_}
-use Rattle.ends.proofs.Tests.{pick-true}
-use Rattle.script.specs.Script.{is-number, value, key-of}
+use Rattle.ends.proofs.Tests.{cond-true}
+use Rattle.tokens.specs.Tokens.{is-number, value}
+use Rattle.names.specs.Names.{key-of}
 use Rattle.script.proofs.Lines.{count-told, count-bad, count-unknown}
 use borrow.Author.Needs.{needs}
 use Rattle.script.proofs.commands.count.Statement.{statement}
@@ -35,7 +36,7 @@ returns-2 c =
     let told = c .before .before .before .before .named .given in
     let h = sym (n .ensures .0) ∙ c .before .if1 .taken in
     count-told (key-of (a .name .now)) (told .0 .0) t (n .result .value) (sym (c .before .before .before .before .before .before .key-named .ensures) ∙ told .1) h
-    (n .ensures .1 .0 ∙ pick-true (is-number 4294967295 t) (value t) 0 h)
+    (n .ensures .1 .0 ∙ cond-true (is-number 4294967295 t) (value t) 0 h)
 
 returns-3 : tie.Need-returns-3
 returns-3 c =

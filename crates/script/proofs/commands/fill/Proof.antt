@@ -4,10 +4,10 @@ use mathlib.Core.List.{List}
 use mathlib.Core.Path.{_≡_, ap, sym, _∙_}
 use Prim.Native.Nat.{ℕ}
 use lib.ListN.{length}
-use Rattle.ends.proofs.Tests.{pick-true}
+use Rattle.ends.proofs.Tests.{cond-true}
 use borrow.Author.Tests.{not-true, not-false}
-use Rattle.script.specs.Script.{is-decimal, offset-value, is-bytes, pairs, over}
-use Rattle.script.proofs.Figures.{over-none}
+use Rattle.tokens.specs.Tokens.{is-decimal, offset-value, is-bytes, pairs, over}
+use Rattle.tokens.proofs.Figures.{over-none}
 use Rattle.script.proofs.Lines.{fill-told, fill-number, fill-bytes, fill-none, fill-some}
 use borrow.Author.Needs.{needs}
 use Rattle.script.proofs.commands.fill.Statement.{statement}
@@ -37,8 +37,8 @@ returns-2 c =
     let e : is-decimal (a .offset .now) ≡ true = sym (n .ensures .0) ∙ not-false (n .result .ok) (c .before .before .before .before .before .if1 .left) in
     let k : is-bytes (a .hex .now) ≡ true = sym (h .ensures .0) ∙ c .if2 .taken in (
       fill-told (a .offset .now) (a .hex .now) (n .result .value) (h .result .count) e k
-          (n .ensures .1 ∙ pick-true (is-decimal (a .offset .now)) (offset-value (a .offset .now)) 0 e)
-          (h .ensures .1 .0 ∙ pick-true (is-bytes (a .hex .now)) (length (pairs (a .hex .now))) 0 k),
+          (n .ensures .1 ∙ cond-true (is-decimal (a .offset .now)) (offset-value (a .offset .now)) 0 e)
+          (h .ensures .1 .0 ∙ cond-true (is-bytes (a .hex .now)) (length (pairs (a .hex .now))) 0 k),
       h .ensures .1 .1 ∙ sym (ap (λ (l : List ℕ). over l (a .bytes .now)) (fill-some (a .offset .now) (a .hex .now) e)),
     )
 

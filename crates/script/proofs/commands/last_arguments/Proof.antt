@@ -1,7 +1,7 @@
 -- `script::commands::last_arguments` meets its contract: it has three arguments, or too many. Assumes nothing.
 use Prim.Native.Nat.{_+_}
 use lib.ListN.{take, drop}
-use Rattle.script.proofs.Cuts.{tokens-more, tokens-one}
+use Rattle.tokens.proofs.Cuts.{tokens-more, tokens-one}
 use Rattle.script.proofs.Lines.{four-bad}
 use borrow.Author.Needs.{needs}
 use Rattle.script.proofs.commands.last_arguments.Statement.{statement}

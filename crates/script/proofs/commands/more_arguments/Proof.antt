@@ -3,10 +3,11 @@ use mathlib.Core.List.{List}
 use mathlib.Core.Path.{ap, sym, _∙_}
 use Prim.Native.Nat.{ℕ, _+_}
 use native.Mathlib.Nat.{sub-zero}
+use native.Mathlib.Omega.{arith}
 use lib.ListN.{take, drop}
-use Rattle.script.specs.Script.{tokens, last, over}
-use Rattle.script.proofs.Cuts.{to-end, tokens-more, tokens-one, last-one}
-use Rattle.script.proofs.Figures.{over-none}
+use Rattle.tokens.specs.Tokens.{tokens, last, over}
+use Rattle.tokens.proofs.Cuts.{to-end, tokens-more, tokens-one, last-one}
+use Rattle.tokens.proofs.Figures.{over-none}
 use Rattle.script.proofs.Lines.{three-none}
 use borrow.Author.Needs.{needs}
 use Rattle.script.proofs.commands.more_arguments.Statement.{statement}
@@ -16,25 +17,25 @@ first-token-requires : tie.Need-first-token-requires
 first-token-requires c κs = search needs
 
 add-from : tie.Need-add-from
-add-from c = search needs
+add-from c = omega arith
 
 sub-last-arguments : tie.Need-sub-last-arguments
-sub-last-arguments c = search needs
+sub-last-arguments c = omega arith
 
 part-last-arguments-start : tie.Need-part-last-arguments-start
-part-last-arguments-start c = search needs
+part-last-arguments-start c = omega arith
 
 part-last-arguments-end : tie.Need-part-last-arguments-end
-part-last-arguments-end c = search needs
+part-last-arguments-end c = omega arith
 
 sub-last-arguments-2 : tie.Need-sub-last-arguments-2
-sub-last-arguments-2 c = search needs
+sub-last-arguments-2 c = omega arith
 
 part-last-arguments-start-2 : tie.Need-part-last-arguments-start-2
-part-last-arguments-start-2 c = search needs
+part-last-arguments-start-2 c = omega arith
 
 part-last-arguments-end-2 : tie.Need-part-last-arguments-end-2
-part-last-arguments-end-2 c = search needs
+part-last-arguments-end-2 c = omega arith
 
 last-arguments-requires : tie.Need-last-arguments-requires
 last-arguments-requires c κs = search needs

@@ -1,8 +1,9 @@
 -- `script::commands::one_argument` meets its contract, word by word. Assumes nothing.
+use mathlib.Core.List.{[], _∷_}
 use mathlib.Core.Path.{sym, _∙_}
-use Rattle.script.specs.Script.{command-of}
-use Rattle.script.proofs.Figures.{over-none}
-use Rattle.script.proofs.Lines.{start-none, bad-none}
+use Rattle.script.specs.declared.Command.the-variants as command
+use Rattle.script.specs.Script.{start, accept, receive, command-of}
+use Rattle.script.proofs.Lines.{start-none, bad-none, one-start, one-accept, one-receive, one-bad, carries, carries-none}
 use borrow.Author.Needs.{needs}
 use Rattle.script.proofs.commands.one_argument.Statement.{statement}
 use Rattle.script.proofs.commands.one_argument.Tie as tie
@@ -17,10 +18,11 @@ start-requires : tie.Need-start-requires
 start-requires c κs = search needs
 
 returns : tie.Need-returns
-unfolding command-of
 returns c =
+    let a = c .before .before .before .before .before .before .before .args in
     let t = sym (c .before .before .is .ensures) ∙ c .before .if1 .taken in
-    (simp t (c .start .ensures), simp (t, start-none, over-none))
+    let e = one-start (a .op .now) (a .a .now) t in
+    (c .start .ensures ∙ sym e, carries-none (command-of (a .op .now) (a .a .now ∷ [])) (start (a .a .now)) (a .a .now) (a .bytes .now) e (start-none (a .a .now) (a .a .now)))
 
 slice-aggregate-is-2 : tie.Need-slice-aggregate-is-2
 slice-aggregate-is-2 c = search needs
@@ -35,11 +37,12 @@ same-length : tie.Need-same-length
 same-length c = search needs
 
 returns-2 : tie.Need-returns-2
-unfolding command-of
 returns-2 c =
+    let a = c .before .before .before .before .before .before .before .before .before .before .before .before .before .args in
     let s = sym (c .before .before .before .before .before .before .before .before .is .ensures) ∙ c .before .before .before .before .before .before .before .if1 .left in
     let t = sym (c .before .before .before .before .before .is2 .ensures) ∙ c .before .before .before .before .if2 .taken in
-    (simp (s, t) (c .before .before .accept .ensures .0), simp (s, t) (c .before .before .accept .ensures .1))
+    let e = one-accept (a .op .now) (a .a .now) s t in
+    (c .before .before .accept .ensures .0 ∙ sym e, carries (command-of (a .op .now) (a .a .now ∷ [])) (accept (a .a .now)) (a .a .now) (a .bytes .now) _ e (c .before .before .accept .ensures .1))
 
 slice-aggregate-is-3 : tie.Need-slice-aggregate-is-3
 slice-aggregate-is-3 c = search needs
@@ -54,20 +57,22 @@ same-length-2 : tie.Need-same-length-2
 same-length-2 c = search needs
 
 returns-3 : tie.Need-returns-3
-unfolding command-of
 returns-3 c =
+    let a = c .before .before .before .before .before .before .before .before .before .before .before .before .before .before .before .before .args in
     let s = sym (c .before .before .before .before .before .before .before .before .before .before .before .is .ensures) ∙ c .before .before .before .before .before .before .before .before .before .before .if1 .left in
     let t = sym (c .before .before .before .before .before .before .before .before .is2 .ensures) ∙ c .before .before .before .before .before .before .before .if2 .left in
     let u = sym (c .before .before .before .before .before .is3 .ensures) ∙ c .before .before .before .before .if3 .taken in
-    (simp (s, t, u) (c .before .before .receive .ensures .0), simp (s, t, u) (c .before .before .receive .ensures .1))
+    let e = one-receive (a .op .now) (a .a .now) s t u in
+    (c .before .before .receive .ensures .0 ∙ sym e, carries (command-of (a .op .now) (a .a .now ∷ [])) (receive (a .a .now)) (a .a .now) (a .bytes .now) _ e (c .before .before .receive .ensures .1))
 
 returns-4 : tie.Need-returns-4
-unfolding command-of
 returns-4 c =
+    let a = c .before .before .before .before .before .before .before .before .before .before .before .before .args in
     let s = sym (c .before .before .before .before .before .before .before .is .ensures) ∙ c .before .before .before .before .before .before .if1 .left in
     let t = sym (c .before .before .before .before .is2 .ensures) ∙ c .before .before .before .if2 .left in
     let u = sym (c .before .is3 .ensures) ∙ c .if3 .left in
-    (simp (s, t, u), simp (s, t, u, bad-none, over-none))
+    let e = one-bad (a .op .now) (a .a .now) s t u in
+    (sym e, carries-none (command-of (a .op .now) (a .a .now ∷ [])) command.Bad (a .a .now) (a .bytes .now) e (bad-none (a .a .now)))
 
 pub one-argument-spec : {M : Type 1} → statement M
 one-argument-spec =

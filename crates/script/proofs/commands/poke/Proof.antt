@@ -1,8 +1,9 @@
 -- `script::commands::poke` meets its contract, by the field and the test. Assumes nothing.
 use mathlib.Core.Path.{ap, sym, _∙_}
 use Prim.Native.Nat.{ℕ}
-use Rattle.ends.proofs.Tests.{pick-true}
-use Rattle.script.specs.Script.{is-number, value, field-of}
+use Rattle.ends.proofs.Tests.{cond-true}
+use Rattle.tokens.specs.Tokens.{is-number, value}
+use Rattle.names.specs.Names.{field-of}
 use Rattle.script.proofs.Lines.{poke-told, poke-bad, poke-unknown}
 use borrow.Author.Needs.{needs}
 use Rattle.script.proofs.commands.poke.Statement.{statement}
@@ -38,7 +39,7 @@ returns-2 c =
     let h = sym (n .ensures .0) ∙ c .if1 .taken in
     poke-told (field-of (a .name .now)) (told .0 .0) t (n .result .value) (sym (c .before .before .before .before .before .before .field-named .ensures) ∙ told .1)
     (ap (λ (x : ℕ). is-number x t) (sym (m .ensures)) ∙ h)
-    (n .ensures .1 .0 ∙ pick-true (is-number (m .result) t) (value t) 0 h)
+    (n .ensures .1 .0 ∙ cond-true (is-number (m .result) t) (value t) 0 h)
 
 returns-3 : tie.Need-returns-3
 returns-3 c =

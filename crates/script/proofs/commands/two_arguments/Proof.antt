@@ -1,8 +1,10 @@
 -- `script::commands::two_arguments` meets its contract, word by word. Assumes nothing.
+use mathlib.Core.List.{[], _∷_}
 use mathlib.Core.Path.{sym, _∙_}
-use Rattle.script.specs.Script.{command-of}
-use Rattle.script.proofs.Figures.{over-none}
-use Rattle.script.proofs.Lines.{poke-none, lend-none, count-none, bad-none}
+use Rattle.names.specs.Names.{field-of, key-of}
+use Rattle.script.specs.declared.Command.the-variants as command
+use Rattle.script.specs.Script.{poke, fill, lend, count, command-of}
+use Rattle.script.proofs.Lines.{poke-none, lend-none, count-none, bad-none, two-poke, two-fill, two-lend, two-count, two-bad, carries, carries-none}
 use borrow.Author.Needs.{needs}
 use Rattle.script.proofs.commands.two_arguments.Statement.{statement}
 use Rattle.script.proofs.commands.two_arguments.Tie as tie
@@ -17,10 +19,11 @@ poke-requires : tie.Need-poke-requires
 poke-requires c κs = search needs
 
 returns : tie.Need-returns
-unfolding command-of
 returns c =
+    let a = c .before .before .before .before .before .before .before .before .args in
     let t = sym (c .before .before .is .ensures) ∙ c .before .if1 .taken in
-    (simp t (c .poke .ensures), simp (t, poke-none, over-none))
+    let e = two-poke (a .op .now) (a .a .now) (a .b .now) t in
+    (c .poke .ensures ∙ sym e, carries-none (command-of (a .op .now) (a .a .now ∷ a .b .now ∷ [])) (poke (field-of (a .a .now)) (a .b .now)) (a .b .now) (a .bytes .now) e (poke-none (field-of (a .a .now)) (a .b .now) (a .b .now)))
 
 slice-aggregate-is-2 : tie.Need-slice-aggregate-is-2
 slice-aggregate-is-2 c = search needs
@@ -35,11 +38,12 @@ same-length : tie.Need-same-length
 same-length c = search needs
 
 returns-2 : tie.Need-returns-2
-unfolding command-of
 returns-2 c =
+    let a = c .before .before .before .before .before .before .before .before .before .before .before .before .before .before .args in
     let s = sym (c .before .before .before .before .before .before .before .before .is .ensures) ∙ c .before .before .before .before .before .before .before .if1 .left in
     let t = sym (c .before .before .before .before .before .is2 .ensures) ∙ c .before .before .before .before .if2 .taken in
-    (simp (s, t) (c .before .before .fill .ensures .0), simp (s, t) (c .before .before .fill .ensures .1))
+    let e = two-fill (a .op .now) (a .a .now) (a .b .now) s t in
+    (c .before .before .fill .ensures .0 ∙ sym e, carries (command-of (a .op .now) (a .a .now ∷ a .b .now ∷ [])) (fill (a .a .now) (a .b .now)) (a .b .now) (a .bytes .now) _ e (c .before .before .fill .ensures .1))
 
 slice-aggregate-is-3 : tie.Need-slice-aggregate-is-3
 slice-aggregate-is-3 c = search needs
@@ -51,12 +55,13 @@ lend-requires : tie.Need-lend-requires
 lend-requires c κs = search needs
 
 returns-3 : tie.Need-returns-3
-unfolding command-of
 returns-3 c =
+    let a = c .before .before .before .before .before .before .before .before .before .before .before .before .before .before .args in
     let s = sym (c .before .before .before .before .before .before .before .before .is .ensures) ∙ c .before .before .before .before .before .before .before .if1 .left in
     let t = sym (c .before .before .before .before .before .is2 .ensures) ∙ c .before .before .before .before .if2 .left in
     let u = sym (c .before .before .is3 .ensures) ∙ c .before .if3 .taken in
-    (simp (s, t, u) (c .lend .ensures), simp (s, t, u, lend-none, over-none))
+    let e = two-lend (a .op .now) (a .a .now) (a .b .now) s t u in
+    (c .lend .ensures ∙ sym e, carries-none (command-of (a .op .now) (a .a .now ∷ a .b .now ∷ [])) (lend (a .a .now) (a .b .now)) (a .b .now) (a .bytes .now) e (lend-none (a .a .now) (a .b .now) (a .b .now)))
 
 slice-aggregate-is-4 : tie.Need-slice-aggregate-is-4
 slice-aggregate-is-4 c = search needs
@@ -68,22 +73,24 @@ count-requires : tie.Need-count-requires
 count-requires c κs = search needs
 
 returns-4 : tie.Need-returns-4
-unfolding command-of
 returns-4 c =
+    let a = c .before .before .before .before .before .before .before .before .before .before .before .before .before .before .before .before .before .args in
     let s = sym (c .before .before .before .before .before .before .before .before .before .before .before .is .ensures) ∙ c .before .before .before .before .before .before .before .before .before .before .if1 .left in
     let t = sym (c .before .before .before .before .before .before .before .before .is2 .ensures) ∙ c .before .before .before .before .before .before .before .if2 .left in
     let u = sym (c .before .before .before .before .before .is3 .ensures) ∙ c .before .before .before .before .if3 .left in
     let v = sym (c .before .before .is4 .ensures) ∙ c .before .if4 .taken in
-    (simp (s, t, u, v) (c .count .ensures), simp (s, t, u, v, count-none, over-none))
+    let e = two-count (a .op .now) (a .a .now) (a .b .now) s t u v in
+    (c .count .ensures ∙ sym e, carries-none (command-of (a .op .now) (a .a .now ∷ a .b .now ∷ [])) (count (key-of (a .a .now)) (a .b .now)) (a .b .now) (a .bytes .now) e (count-none (key-of (a .a .now)) (a .b .now) (a .b .now)))
 
 returns-5 : tie.Need-returns-5
-unfolding command-of
 returns-5 c =
+    let a = c .before .before .before .before .before .before .before .before .before .before .before .before .before .before .before .before .args in
     let s = sym (c .before .before .before .before .before .before .before .before .before .before .is .ensures) ∙ c .before .before .before .before .before .before .before .before .before .if1 .left in
     let t = sym (c .before .before .before .before .before .before .before .is2 .ensures) ∙ c .before .before .before .before .before .before .if2 .left in
     let u = sym (c .before .before .before .before .is3 .ensures) ∙ c .before .before .before .if3 .left in
     let v = sym (c .before .is4 .ensures) ∙ c .if4 .left in
-    (simp (s, t, u, v), simp (s, t, u, v, bad-none, over-none))
+    let e = two-bad (a .op .now) (a .a .now) (a .b .now) s t u v in
+    (sym e, carries-none (command-of (a .op .now) (a .a .now ∷ a .b .now ∷ [])) command.Bad (a .b .now) (a .bytes .now) e (bad-none (a .b .now)))
 
 pub two-arguments-spec : {M : Type 1} → statement M
 two-arguments-spec =

@@ -1,0 +1,20 @@
+-- `names::key_or` meets its contract, by the test. Assumes nothing.
+use mathlib.Core.Path.{sym, _∙_}
+use Rattle.names.specs.Names.{key-or}
+use borrow.Author.Needs.{needs}
+use Rattle.names.proofs.key_or.Statement.{statement}
+use Rattle.names.proofs.key_or.Tie as tie
+
+is-requires : tie.Need-is-requires
+is-requires c κs = search needs
+
+returns : tie.Need-returns
+unfolding key-or
+returns c = simp (sym (c .before .is .ensures) ∙ c .if1 .taken)
+
+returns-2 : tie.Need-returns-2
+unfolding key-or
+returns-2 c = simp (sym (c .before .is .ensures) ∙ c .if1 .left)
+
+pub key-or-spec : {M : Type 1} → statement M
+key-or-spec = tie.close (tie.spec is-requires returns returns-2)
