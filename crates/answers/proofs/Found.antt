@@ -39,31 +39,45 @@ Fits answer.Damaged e f = Nothing
 Fits answer.Discarded e f = Nothing
 Fits (answer.Down cause) e f = Nothing
 
-replay-fits : (e : End) (f : Fields) → Fits (replay-answer e f) e f
+-- what holds of each answer to a replay flit, where its tests led there, holds of the answer; and to another flit
+pub replay-by : (P : Answer → Type 0) (e : End) (f : Fields) → ((n : ℕ) → P (answer.Down n))
+    → (ltb 8 (f .previous .0) ≡ false → past-sent e (newly-covered e (f .last .0)) ≡ false → P answer.Replayed × P answer.Ahead)
+    → P (replay-answer e f)
 unfolding replay-answer
-replay-fits e f =
-    let P : Answer → Type 0 = λ a. Fits a e f in
-    cond-either P (f .short) _ _ (λ t. record {})
+replay-by P e f down taken =
+    cond-either P (f .short) _ _ (λ t. down _)
     (λ t.
-    cond-either P (ltb 8 (f .previous .0)) _ _ (λ u. record {})
+    cond-either P (ltb 8 (f .previous .0)) _ _ (λ u. down _)
     (λ u.
-    cond-either P (past-sent e (newly-covered e (f .last .0))) _ _ (λ v. record {})
-    (λ v. cond-either P (ltb (behind e (f .start .0)) half) _ _ (λ w. record { within = v }) (λ w. record { within = v }))))
+    cond-either P (past-sent e (newly-covered e (f .last .0))) _ _ (λ v. down _)
+    (λ v. cond-either P (ltb (behind e (f .start .0)) half) _ _ (λ w. taken u v .0) (λ w. taken u v .1))))
+
+pub plain-by : (P : Answer → Type 0) (e : End) (f : Fields) → ((n : ℕ) → P (answer.Down n))
+    → (past-sent e (f .acks .0) ≡ false → eqb (f .run .0) idle ≡ true → P answer.Idle)
+    → (past-sent e (f .acks .0) ≡ false → eqb (f .run .0) idle ≡ false → P answer.Duplicate)
+    → (past-sent e (f .acks .0) ≡ false
+    → eqb (f .run .0) idle ≡ false
+    → ltb 1024 (e .untold .0 + (e .gathered .0 + 1)) ≡ false
+    → P (answer.Delivered (e .gathered)))
+    → P (plain-answer e f)
+unfolding plain-answer
+plain-by P e f down idles again delivers =
+    cond-either P (f .short) _ _ (λ t. down _)
+    (λ t.
+    cond-either P (past-sent e (f .acks .0)) _ _ (λ u. down _)
+    (λ u.
+    cond-either P (eqb (f .run .0) idle) _ _ (λ v. idles u v)
+    (λ v.
+    cond-either P (not (eqb (e .position .0) (e .wanted .0))) _ _ (λ w. again u v)
+    (λ w. cond-either P (ltb 1024 (e .untold .0 + (e .gathered .0 + 1))) _ _ (λ x. down _) (λ x. delivers u v x)))))
+
+replay-fits : (e : End) (f : Fields) → Fits (replay-answer e f) e f
+replay-fits e f = replay-by (λ a. Fits a e f) e f (λ n. record {}) (λ u v. (record { within = v }, record { within = v }))
 
 plain-fits : (e : End) (f : Fields) → Fits (plain-answer e f) e f
-unfolding plain-answer
 plain-fits e f =
-    let P : Answer → Type 0 = λ a. Fits a e f in
-    cond-either P (f .short) _ _ (λ t. record {})
-    (λ t.
-    cond-either P (past-sent e (f .acks .0)) _ _ (λ u. record {})
-    (λ u.
-    cond-either P (eqb (f .run .0) idle) _ _ (λ v. record { within = u })
-    (λ v.
-    cond-either P (not (eqb (e .position .0) (e .wanted .0))) _ _ (λ w. record { within = u })
-    (λ w.
-    cond-either P (ltb 1024 (e .untold .0 + (e .gathered .0 + 1))) _ _ (λ x. record {})
-    (λ x. record { within = u; room = ltb-false 1024 (e .untold .0 + (e .gathered .0 + 1)) x })))))
+    plain-by (λ a. Fits a e f) e f (λ n. record {}) (λ u v. record { within = u }) (λ u v. record { within = u })
+    (λ u v x. record { within = u; room = ltb-false 1024 (e .untold .0 + (e .gathered .0 + 1)) x })
 
 -- of every answer that is found
 pub found : (m : Mode) (e : End) (f : Fields) (b : Bool) → Fits (mode-answer m e f b) e f

@@ -2,7 +2,7 @@
 -- replay flit's previous run length are at most 8. Assumes nothing.
 use mathlib.Core.Bool.{Bool, true, false, not, _&&_, _||_}
 use mathlib.Core.Path.{_≡_, refl}
-use Prim.Native.Nat.{ℕ, _+_, _<_, _≤_}
+use Prim.Native.Nat.{ℕ, _<_, _≤_}
 use native.Mathlib.Omega.{arith}
 use borrow.Author.Tests.{ltb-true, ltb-false, leb-false, eqb-true, eqb-false, not-true, lt-ltb, eq-eqb}
 use lib.Dec.{ltb, leb, eqb}
@@ -12,11 +12,11 @@ use Rattle.ends.specs.declared.state.End.{End}
 use Rattle.ends.specs.declared.state.Mode.{Mode}
 use Rattle.ends.specs.declared.state.Mode.the-variants.{Run, Wait, Down}
 use Rattle.ends.proofs.Tests.{and-l, and-r, cond-either}
-use Rattle.arrivals.specs.Arrivals.{holds, closes, run-wrong, stall-wrong, straddles, damaged, skips, newly-covered, past-sent, behind}
-use Rattle.answers.specs.Answers.{half, replay-answer, plain-answer, run-answer, wait-answer, mode-answer}
+use Rattle.arrivals.specs.Arrivals.{holds, closes, run-wrong, stall-wrong, straddles, damaged, skips}
+use Rattle.answers.specs.Answers.{replay-answer, plain-answer, run-answer, wait-answer, mode-answer}
 use Rattle.answers.specs.declared.Answer.{Answer}
 use Rattle.answers.specs.declared.Answer.the-variants as answer
-use Rattle.answers.proofs.Found.{Nothing}
+use Rattle.answers.proofs.Found.{Nothing, replay-by, plain-by}
 use Rattle.receive.proofs.Sides.{Receives}
 
 pub record Owing (e : End) : Type 0 where
@@ -110,31 +110,16 @@ owing e h =
     }
 
 replay-grounds : (e : End) (f : Fields) → Grounds (replay-answer e f) e f
-unfolding replay-answer
 replay-grounds e f =
-    let P : Answer → Type 0 = λ a. Grounds a e f in
-    cond-either P (f .short) _ _ (λ t. record {})
-    (λ t.
-    cond-either P (ltb 8 (f .previous .0)) _ _ (λ u. record {})
-    (λ u.
-    let a : Announced f = record { previous = ltb-false 8 (f .previous .0) u } in
-    cond-either P (past-sent e (newly-covered e (f .last .0))) _ _ (λ v. record {})
-    (λ v. cond-either P (ltb (behind e (f .start .0)) half) _ _ (λ w. a) (λ w. a))))
+    replay-by (λ a. Grounds a e f) e f (λ n. record {})
+    (λ u v. let a : Announced f = record { previous = ltb-false 8 (f .previous .0) u } in (a, a))
 
 plain-grounds : (e : End) (f : Fields) → f .run .0 ≤ 15 → skips f ≡ false → eqb (f .run .0) replay ≡ false
     → (eqb (f .run .0) idle ≡ true → e .gathered .0 ≡ 0) → Grounds (plain-answer e f) e f
-unfolding plain-answer skips
+unfolding skips
 plain-grounds e f h s p i =
-    let P : Answer → Type 0 = λ a. Grounds a e f in
-    cond-either P (f .short) _ _ (λ t. record {})
-    (λ t.
-    cond-either P (past-sent e (f .acks .0)) _ _ (λ u. record {})
-    (λ u.
-    cond-either P (eqb (f .run .0) idle) _ _ (λ v. record { none = i v })
-    (λ v.
-    let c : Control f = record { run = control-run (f .run .0) h s p v } in
-    cond-either P (not (eqb (e .position .0) (e .wanted .0))) _ _ (λ w. c)
-    (λ w. cond-either P (ltb 1024 (e .untold .0 + (e .gathered .0 + 1))) _ _ (λ x. record {}) (λ x. c)))))
+    plain-by (λ a. Grounds a e f) e f (λ n. record {}) (λ u v. record { none = i v }) (λ u v. record { run = control-run (f .run .0) h s p v })
+    (λ u v x. record { run = control-run (f .run .0) h s p v })
 
 -- of every answer that is found
 pub grounds : (m : Mode) (e : End) (f : Fields) (b : Bool) → Receives e → f .run .0 ≤ 15 → Grounds (mode-answer m e f b) e f
