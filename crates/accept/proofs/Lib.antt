@@ -1,4 +1,3 @@
-pub mod Admission
 pub mod Unchanged
 pub mod Stored
 pub mod Sound

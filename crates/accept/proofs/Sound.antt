@@ -21,8 +21,9 @@ use Rattle.ends.proofs.Tests.{and-l, and-r, and-true, cond-true, cond-either}
 use Rattle.ends.proofs.Facts.{numbered}
 use Rattle.ends.proofs.Places.{walk-same}
 use Rattle.ends.proofs.Walks.{next-border}
-use Rattle.accept.specs.Accept.{flits-of, control-of, verdict, accept, accept-store}
-use Rattle.accept.proofs.Admission.{Admission, admission}
+use Rattle.admission.specs.Admission.{flits-of, control-of, verdict}
+use Rattle.admission.proofs.Admitted.{Admission, admission}
+use Rattle.accept.specs.Accept.{accept, accept-store}
 use Rattle.accept.proofs.Unchanged.{refused-changes-nothing}
 use Rattle.accept.proofs.Stored.{admitted-end, length-kept, stored-in-order, stored-before, last-flit}
 

@@ -14,8 +14,9 @@ use Rattle.ends.specs.Ring.{flit-at, put-at, place, stored}
 use Rattle.ends.specs.declared.state.End.{End}
 use Rattle.ends.specs.declared.state.Verdict.the-variants.{Admitted}
 use Rattle.ends.proofs.Places.{place-under, same-place, flit-length, put-length, flit-put-same, flit-put-other}
-use Rattle.accept.specs.Accept.{flits-of, control-of, verdict, written, accept, accept-store}
-use Rattle.accept.proofs.Admission.{Admission, admission}
+use Rattle.admission.specs.Admission.{flits-of, control-of, verdict}
+use Rattle.admission.proofs.Admitted.{Admission, admission}
+use Rattle.accept.specs.Accept.{written, accept, accept-store}
 
 -- the first n flits of a unit, written to their places
 module _

@@ -5,7 +5,8 @@ use Prim.Native.Nat.{ℕ}
 use Rattle.ends.specs.declared.state.End.{End}
 use Rattle.ends.specs.declared.state.Refusal.{Refusal}
 use Rattle.ends.specs.declared.state.Verdict.the-variants.{Refused}
-use Rattle.accept.specs.Accept.{verdict, accept, accept-store}
+use Rattle.admission.specs.Admission.{verdict}
+use Rattle.accept.specs.Accept.{accept, accept-store}
 
 pub refused-changes-nothing : (e : End) (store unit : List ℕ) (r : Refusal) → verdict e store unit ≡ Refused r
     → (accept e store unit .end ≡ e) × (accept-store e store unit ≡ store)

@@ -1,14 +1,13 @@
 // Accept takes one unit from the transaction layer: its data flits, then its control flit.
 use ends::ring;
 use ends::state::End;
-use ends::state::Refusal;
 use ends::state::Verdict;
 use numbers::FlitCount;
 ghost use mathlib.Core.Path.{_≡_};
 ghost use Prim.Native.Nat.{_+_, _*_, _≤_};
 ghost use lib.ListN.{length};
 ghost use Rattle.ends.specs.Update.{with-held};
-ghost use Rattle.accept.specs.Accept.{unit-shaped as unit-shaped-of, verdict as verdict-of, written, accept as accept-of, accept-store};
+ghost use Rattle.accept.specs.Accept.{written, accept as accept-of, accept-store};
 
 // What accept answers, and the end after it.
 pub struct Accepted {
@@ -21,7 +20,7 @@ pub fn accept(e: End, store: &mut [u8], unit: &[u8]) -> Accepted
     ensures { λ r. ⌜ r ≡ accept-of e (now (store .entry)) (now (unit .entry)) ⌝ }
     ensures { λ _. ⌜ now (store .exit) ≡ accept-store e (now (store .entry)) (now (unit .entry)) ⌝ }
 {
-    match verdict(e, &store[..], unit) {
+    match admission::verdict(e, &store[..], unit) {
         Verdict::Refused(r) => Accepted {
             verdict: Verdict::Refused(r),
             end: e,
@@ -36,46 +35,6 @@ pub fn accept(e: End, store: &mut [u8], unit: &[u8]) -> Accepted
             }
         }
     }
-}
-
-// 3 SHAPE.
-fn unit_shaped(bytes: usize) -> bool
-    ensures { λ r. ⌜ r ≡ unit-shaped-of bytes ⌝ }
-{
-    (0 < bytes) & (bytes <= End::HOLD) & (bytes % End::FLIT == 0)
-}
-
-// The refusals of accept, in the table's order.
-fn verdict(e: End, store: &[u8], unit: &[u8]) -> Verdict
-    ensures { λ r. ⌜ r ≡ verdict-of e (now (store .entry)) (now (unit .entry)) ⌝ }
-{
-    let bytes = unit.len();
-    if !judge::is_its_store(e, store.len()) {
-        return Verdict::Refused(Refusal::Store);
-    }
-    let judged = judge::judge(e, store);
-    if !judged.sound {
-        return Verdict::Refused(Refusal::State);
-    }
-    if !unit_shaped(bytes) {
-        return Verdict::Refused(Refusal::Shape);
-    }
-    let mode = e.mode;
-    if judge::is_down(mode) {
-        return Verdict::Refused(Refusal::Down);
-    }
-    let flits = bytes / End::FLIT;
-    if flits - 1 != judged.last.0 {
-        return Verdict::Refused(Refusal::Run);
-    }
-    let control = bytes - End::FLIT;
-    if !flits::read::acceptable(&unit[control..bytes]) {
-        return Verdict::Refused(Refusal::Field);
-    }
-    if e.capacity.0 < e.held.0 + flits {
-        return Verdict::Refused(Refusal::Full);
-    }
-    Verdict::Admitted
 }
 
 // Writes a unit to the places after the held flits.

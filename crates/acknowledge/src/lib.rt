@@ -9,7 +9,7 @@ ghost use lib.ListN.{length};
 ghost use Rattle.ends.specs.Ring.{begun, walked};
 ghost use Rattle.acknowledge.specs.Acknowledge.{Covered, last-border, freed as freed-of, sent-anew as sent-anew-of, acknowledged as acknowledged-of};
 
-// The last unit border among the oldest flits, and the walk up to it.
+// A unit border among the oldest flits, and the data flits of the unit that begins there.
 pub struct Border {
     pub flits: usize,
     pub run: usize,

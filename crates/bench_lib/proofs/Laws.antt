@@ -1,16 +1,19 @@
--- How long the parts of a line are, and how a session goes on. Assumes nothing.
+-- The lines from their forms, how long they are, and how a session goes on. Assumes nothing.
 use mathlib.Core.Bool.{Bool, true, false}
-use mathlib.Core.List.{List, []}
+use mathlib.Core.List.{List, [], _∷_, _++_, append-nil, append-assoc}
 use mathlib.Core.Path.{_≡_, refl, ap, sym, _∙_}
 use Prim.Native.Nat.{ℕ, zero, suc, _+_, _*_, _/_, _≤_}
 use native.Mathlib.Numerals.{add-one}
 use native.Mathlib.Omega.{arith}
 use lib.ListN.{length, length-append}
-use Rattle.text.specs.Text.{Puts}
+use Rattle.text.specs.Text.{ascii, decimal, filled, Puts}
 use Rattle.text.proofs.Laws.{length-decimal, puts-more, puts-as}
+use Rattle.ticket.specs.Ticket.{text}
 use Rattle.ticket.specs.declared.Ticket.{Ticket}
 use Rattle.ticket.proofs.Laws.{text-short}
+use Rattle.words.specs.Words.{answer-word, mode-word}
 use Rattle.words.proofs.Laws.{answer-short, mode-short}
+use Rattle.ends.proofs.Tests.{cond-true, cond-false}
 use Rattle.ends.specs.declared.state.End.{End}
 use Rattle.ends.specs.Ring.{flit-at}
 use Rattle.answers.specs.Answers.{data-delivered}
@@ -19,18 +22,54 @@ use Rattle.receive.specs.Receive.{receive}
 use Rattle.bench_lib.specs.declared.Bench.{Bench}
 use Rattle.bench_lib.specs.Bench.{answer-part, state-part, line, Session, next, flits, session, last-lines}
 
-pub answer-part-short : (flit : ℕ) (a : Answer) → length (answer-part flit a) ≤ 80
+answer-part-short : (flit : ℕ) (a : Answer) → length (answer-part flit a) ≤ 80
 unfolding answer-part
 answer-part-short flit a =
     simp length-append (omega (arith, length-decimal flit, answer-short a, length-decimal (data-delivered a)))
 
-pub state-part-short : (e : End) → length (state-part e) ≤ 48
+state-part-short : (e : End) → length (state-part e) ≤ 48
 unfolding state-part
 state-part-short e = simp length-append (omega (arith, length-decimal (e .wanted .0), mode-short (e .mode)))
 
-pub line-short : (flit : ℕ) (a : Answer) (e : End) → length (line flit a e) ≤ 128
+line-short : (flit : ℕ) (a : Answer) (e : End) → length (line flit a e) ≤ 128
 unfolding line
 line-short flit a e = simp length-append (omega (arith, answer-part-short flit a, state-part-short e))
+
+-- ---- a line from its forms
+
+line-joined : (flit word data-part wanted key mode feed : List ℕ)
+    → flit ++ word ++ (data-part ++ (wanted ++ key)) ++ mode ++ feed ≡ (flit ++ word ++ data-part) ++ (wanted ++ key ++ mode ++ feed)
+line-joined flit word data-part wanted key mode feed = simp append-assoc
+
+pub line-is : (flit : ℕ) (a : Answer) (e : End) (n : ℕ) → n ≡ data-delivered a
+    → filled (ascii "flit=# answer=") (flit ∷ []) ++ answer-word a ++ filled (ascii " data=# wanted=# mode=") (n ∷ e .wanted .0 ∷ [])
+    ++ mode-word (e .mode)
+    ++ ascii "\n"
+    ≡ line flit a e
+unfolding filled line answer-part state-part
+line-is flit a e n h =
+    line-joined (ascii "flit=" ++ decimal flit ++ ascii " answer=") (answer-word a) (ascii " data=" ++ decimal n) (ascii " wanted=" ++ decimal (e .wanted .0)) (ascii " mode=") (mode-word (e .mode)) (ascii "\n")
+    ∙ ap (λ (k : ℕ). (ascii "flit=" ++ decimal flit ++ ascii " answer=" ++ answer-word a ++ (ascii " data=" ++ decimal k)) ++ state-part e) h
+
+-- the last lines, with the ticket and without it
+pub puts-ticketed : {out middle after : List ℕ} {at next last : ℕ} (rest : ℕ) (t : Ticket) (ticketed : Bool) → ticketed ≡ true
+    → Puts out at (filled (ascii "rest=#\n") (rest ∷ [])) next middle → Puts middle next (text t) last after
+    → Puts out at (last-lines rest t ticketed) last after
+unfolding filled last-lines
+puts-ticketed rest t ticketed h p q =
+    puts-as
+    (ap (λ (l : List ℕ). ascii "rest=" ++ decimal rest ++ ascii "\n" ++ l) (sym (cond-true ticketed (text t) [] h)))
+    (puts-more p q)
+
+pub puts-unticketed : {out after : List ℕ} {at next : ℕ} (rest : ℕ) (t : Ticket) (ticketed : Bool) → ticketed ≡ false
+    → Puts out at (filled (ascii "rest=#\n") (rest ∷ [])) next after → Puts out at (last-lines rest t ticketed) next after
+unfolding filled last-lines
+puts-unticketed rest t ticketed h p =
+    puts-as
+    (sym
+    (ap (λ (l : List ℕ). ascii "rest=" ++ decimal rest ++ ascii "\n" ++ l) (cond-false ticketed (text t) [] h)
+    ∙ append-nil (ascii "rest=" ++ decimal rest ++ ascii "\n")))
+    p
 
 -- ---- a session
 

@@ -4,7 +4,7 @@ use mathlib.Core.Bool.{Bool, cond}
 use mathlib.Core.List.{List, [], _++_}
 use Prim.Native.Nat.{ℕ, zero, suc, _+_, _/_}
 use lib.ListN.{length}
-use Rattle.text.specs.Text.{ascii, decimal}
+use Rattle.text.specs.Text.{ascii, field}
 use Rattle.words.specs.Words.{answer-word, mode-word}
 use Rattle.ticket.specs.declared.Ticket.{Ticket}
 use Rattle.ticket.specs.Ticket.{Call, nothing, after, text}
@@ -20,10 +20,10 @@ use Rattle.bench_lib.specs.declared.Bench.{Bench}
 -- flit counts from 0, data is the data flits that this answer delivered, wanted and mode are as it leaves them
 unfoldable pub answer-part : ℕ → Answer → List ℕ
 answer-part flit answer =
-    ascii "flit=" ++ decimal flit ++ ascii " answer=" ++ answer-word answer ++ (ascii " data=" ++ decimal (data-delivered answer))
+    field "flit=" flit ++ ascii " answer=" ++ answer-word answer ++ field " data=" (data-delivered answer)
 
 unfoldable pub state-part : End → List ℕ
-state-part e = ascii " wanted=" ++ decimal (e .wanted .0) ++ ascii " mode=" ++ mode-word (e .mode) ++ ascii "\n"
+state-part e = field " wanted=" (e .wanted .0) ++ ascii " mode=" ++ mode-word (e .mode) ++ ascii "\n"
 
 unfoldable pub line : ℕ → Answer → End → List ℕ
 line flit answer e = answer-part flit answer ++ state-part e
@@ -62,4 +62,4 @@ session store kept hold input = flits store (record { kept = kept; hold = hold; 
 
 -- rest is the bytes left over; with --ticket the ticket follows
 unfoldable pub last-lines : ℕ → Ticket → Bool → List ℕ
-last-lines rest ticket ticketed = ascii "rest=" ++ decimal rest ++ ascii "\n" ++ cond ticketed (text ticket) []
+last-lines rest ticket ticketed = field "rest=" rest ++ ascii "\n" ++ cond ticketed (text ticket) []

@@ -9,7 +9,7 @@ ghost use Prim.Native.Nat.{_+_, _*_, _/_, _^_, _≤_, _<_};
 ghost use lib.ListN.{length, take, drop};
 ghost use Rattle.crc.specs.Register.{table};
 ghost use Rattle.text.specs.Text.{Puts};
-ghost use Rattle.bench_lib.specs.Bench.{answer-part, state-part, line, begun, next, session, last-lines};
+ghost use Rattle.bench_lib.specs.Bench.{line, begun, next, session, last-lines};
 
 // What is kept while flits arrive: how many came, the receiver, the ticket.
 pub struct Bench {
@@ -119,30 +119,15 @@ fn put_line(out: &mut [u8], at: usize, flit: u64, answer: Answer, end: End) -> u
     requires { ⌜ at + 128 ≤ length (now out) ⌝ }
     ensures { λ r. ⌜ Puts (now (out .entry)) at (line flit answer end) r (now (out .exit)) ⌝ }
 {
-    let state = put_answer_part(out, at, flit, answer);
-    put_state_part(out, state, end)
-}
-
-fn put_answer_part(out: &mut [u8], at: usize, flit: u64, answer: Answer) -> usize
-    requires { ⌜ at + 80 ≤ length (now out) ⌝ }
-    ensures { λ r. ⌜ Puts (now (out .entry)) at (answer-part flit answer) r (now (out .exit)) ⌝ }
-{
-    let data = words::data_delivered(answer);
-    let key = text::put_field(out, at, b"flit=", flit);
-    let word = text::put(out, key, b" answer=");
-    let after = words::put_answer(out, word, answer);
-    text::put_field(out, after, b" data=", data as u64)
-}
-
-fn put_state_part(out: &mut [u8], at: usize, end: End) -> usize
-    requires { ⌜ at + 48 ≤ length (now out) ⌝ }
-    ensures { λ r. ⌜ Puts (now (out .entry)) at (state-part end) r (now (out .exit)) ⌝ }
-{
     let mode = end.mode;
-    let key = text::put_field(out, at, b" wanted=", end.wanted.0 as u64);
-    let word = text::put(out, key, b" mode=");
-    let after = words::put_mode(out, word, mode);
-    text::put(out, after, b"\n")
+    let data = words::data_delivered(answer);
+    let wanted = end.wanted.0 as u64;
+    let numbers = [data as u64, wanted];
+    let first = text::put_form(out, at, b"flit=# answer=", &[flit]);
+    let middle = words::put_answer(out, first, answer);
+    let second = text::put_form(out, middle, b" data=# wanted=# mode=", &numbers);
+    let last = words::put_mode(out, second, mode);
+    text::put(out, last, b"\n")
 }
 
 // The lines after the last flit.
@@ -150,11 +135,10 @@ pub fn put_last_lines(out: &mut [u8], rest: usize, counts: Ticket, ticketed: boo
     requires { ⌜ 256 ≤ length (now out) ⌝ }
     ensures { λ r. ⌜ Puts (now (out .entry)) 0 (last-lines rest counts ticketed) r (now (out .exit)) ⌝ }
 {
-    let a = text::put_field(out, 0, b"rest=", rest as u64);
-    let b = text::put(out, a, b"\n");
+    let end = text::put_form(out, 0, b"rest=#\n", &[rest as u64]);
     if ticketed {
-        ticket::put_ticket(out, b, counts)
+        ticket::put_ticket(out, end, counts)
     } else {
-        b
+        end
     }
 }

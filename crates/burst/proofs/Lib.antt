@@ -1,3 +1,3 @@
-pub mod Lengths
 pub mod Cases
+pub mod Parts
 pub mod Ready

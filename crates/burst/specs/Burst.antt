@@ -1,44 +1,17 @@
--- The burst of one send and the state after it, step by step of 01, "Send". Assumes nothing.
-use mathlib.Core.Bool.{Bool, false, cond}
+-- The burst of one send, step by step of 01, "Send". Assumes nothing.
+use mathlib.Core.Bool.{false, cond}
 use mathlib.Core.List.{List, _++_}
-use Prim.Native.Nat.{ℕ, _+_, _-_}
-use lib.Dec.{ltb, leb}
-use Rattle.numbers.specs.Numbers.{width, after, last-received, acknowledge-number}
-use Rattle.compose.specs.Flits.{idle-flit, replay-flit}
-use Rattle.ends.specs.Update.{with-cursor, with-sent, with-untold, with-pending}
-use Rattle.ends.specs.State.{is-wait}
-use Rattle.ends.specs.Refusals.{cursor-at, sent-at}
+use Prim.Native.Nat.{ℕ, _+_}
+use lib.Dec.{ltb}
+use Rattle.compose.specs.Flits.{idle-flit}
 use Rattle.ends.specs.declared.state.End.{End}
+use Rattle.moves.specs.Moves.{carried, fallen, unit-at-cursor}
+use Rattle.replays.specs.Replays.{replay-sent}
 use Rattle.units.specs.Units.{unit-sent}
-
--- each idle or control flit carries the smaller of 31 and untold, which falls by it
-abbrev pub carried : ℕ → ℕ
-carried untold = cond (leb untold 31) untold 31
-
-abbrev pub fallen : ℕ → ℕ
-fallen untold = untold - carried untold
 
 -- below, `run` is the run length of the control flit before the cursor (0 if none): the data flits owed there
 
--- 1. pending: two replay flits, alike
-unfoldable pub replay-sent : End → ℕ → ℕ → ℕ → List ℕ
-replay-sent e run errors information =
-    replay-flit
-    (record {
-      information = information;
-      previous = record { 0 = run };
-      start = e .cursor;
-      last = record { 0 = acknowledge-number last-received width (e .wanted .0) };
-      errors = errors;
-      stalled = ltb 0 run;
-      nack = is-wait (e .mode);
-    })
-
--- 2. a unit at the cursor
-abbrev pub unit-at-cursor : End → Bool
-unit-at-cursor e = ltb (cursor-at e) (e .held .0)
-
--- if it has data, an idle flit goes before it, with data stalled 0; 3. else one idle flit
+-- 1. pending: two replay flits; 2. a unit at the cursor: if it has data, an idle flit goes before it, with data stalled 0; 3. else one idle flit
 unfoldable pub burst : End → List ℕ → ℕ → ℕ → ℕ → List ℕ
 burst e store run errors information =
     cond (e .pending) (replay-sent e run errors information ++ replay-sent e run errors information)
@@ -51,17 +24,3 @@ burst e store run errors information =
 -- the number of flits written
 unfoldable pub burst-flits : End → ℕ → ℕ
 burst-flits e run = cond (e .pending) 2 (cond (unit-at-cursor e) (cond (ltb 0 run) (run + 2) 1) 1)
-
--- the cursor moves past the unit, and sent with it where the cursor passes it
-abbrev pub past-unit : End → ℕ → End
-past-unit e run =
-    with-cursor (after width (e .cursor .0) (run + 1))
-    (with-sent (cond (ltb (sent-at e) (cursor-at e + (run + 1))) (after width (e .cursor .0) (run + 1)) (e .sent .0)) e)
-
--- after a replay pair untold is 0 and pending cleared; untold falls once for each idle or control flit
-unfoldable pub moved : End → ℕ → End
-moved e run =
-    cond (e .pending) (with-untold 0 (with-pending false e))
-    (cond (unit-at-cursor e)
-    (with-untold (cond (ltb 0 run) (fallen (fallen (e .untold .0))) (fallen (e .untold .0))) (past-unit e run))
-    (with-untold (fallen (e .untold .0)) e))

@@ -20,7 +20,7 @@ use Rattle.ends.specs.declared.state.Refusal.the-variants as refusal
 use Rattle.ends.specs.declared.state.Verdict.{Verdict}
 use Rattle.ends.specs.declared.state.Verdict.the-variants.{Refused, Admitted}
 use Rattle.accept.specs.Accept.{accept}
-use Rattle.burst.specs.Burst.{replay-sent}
+use Rattle.replays.specs.Replays.{replay-sent}
 use Rattle.send.specs.Send.{send, send-output}
 use Rattle.arrivals.specs.Arrivals.{behind}
 use Rattle.answers.specs.declared.Answer.{Answer}

@@ -8,9 +8,19 @@ use Rattle.ends.specs.declared.state.Verdict.{Verdict}
 use Rattle.ends.specs.declared.state.Verdict.the-variants.{Refused, Admitted}
 use Rattle.ticket.specs.declared.Ticket.{Ticket}
 use Rattle.ticket.specs.Ticket.{Call, after, adds}
-use Rattle.accept.specs.Accept.{accept, verdict, end-after, flits-of}
+use Rattle.admission.specs.Admission.{flits-of, verdict}
+use Rattle.accept.specs.Accept.{accept, end-after}
 use Rattle.receive.specs.Receive.{receive}
-use Rattle.counted.specs.Counted.{accepted-counts, accept-ticket, received-counts, receive-ticket}
+use Rattle.accept.specs.declared.Accepted.{Accepted}
+use Rattle.receive.specs.declared.Received.{Received}
+use Rattle.counted.specs.Counted.{accept-ticket, receive-ticket}
+
+-- the ticket after what a call answered
+abbrev pub accepted-counts : Ticket → End → Accepted → Ticket
+accepted-counts t before accepted = after t (Call.accepts (accepted .verdict) (accepted .end .held .0 - before .held .0))
+
+abbrev pub received-counts : Ticket → Received → Ticket
+received-counts t received = after t (Call.receives (received .answer))
 
 by-verdict : (t : Ticket) (e : End) (unit : List ℕ) (v : Verdict)
     → after t (Call.accepts v (end-after v e unit .held .0 - e .held .0)) ≡ after t (Call.accepts v (flits-of unit))
@@ -22,10 +32,10 @@ by-verdict t e unit Admitted =
 
 pub accept-counts : (t : Ticket) (e : End) (store unit : List ℕ)
     → accepted-counts t e (accept e store unit) ≡ accept-ticket t e store unit
-unfolding accepted-counts accept-ticket accept
+unfolding accept-ticket accept
 accept-counts t e store unit = by-verdict t e unit (verdict e store unit)
 
 pub receive-counts : (t : Ticket) (e : End) (store hold flit : List ℕ)
     → received-counts t (receive e store hold flit) ≡ receive-ticket t e store hold flit
-unfolding received-counts receive-ticket
+unfolding receive-ticket
 receive-counts t e store hold flit = refl

@@ -6,13 +6,15 @@ use numbers::FlitCount;
 use receive::Received;
 use ticket::Ticket;
 ghost use mathlib.Core.Path.{_≡_};
+ghost use Prim.Native.Nat.{_-_};
+ghost use Rattle.ticket.specs.Ticket.{Call, after};
 ghost use Rattle.accept.specs.Accept.{accept as accept-of, accept-store};
 ghost use Rattle.receive.specs.Receive.{receive as receive-of, receive-hold};
-ghost use Rattle.counted.specs.Counted.{accepted-counts, received-counts, accept-ticket, receive-ticket};
+ghost use Rattle.counted.specs.Counted.{accept-ticket, receive-ticket};
 
 // The ticket after an accept that found the end as it was before: its flits are those that the end then holds more.
 fn after_accepted(t: Ticket, before: End, accepted: Accepted) -> Ticket
-    ensures { λ r. ⌜ r ≡ accepted-counts t before accepted ⌝ }
+    ensures { λ r. ⌜ r ≡ after t (Call.accepts (accepted .verdict) (accepted .end .held .0 - before .held .0)) ⌝ }
 {
     let verdict = accepted.verdict;
     let now = accepted.end.held.0;
@@ -26,7 +28,7 @@ fn after_accepted(t: Ticket, before: End, accepted: Accepted) -> Ticket
 
 // The ticket after a receive.
 fn after_received(t: Ticket, received: Received) -> Ticket
-    ensures { λ r. ⌜ r ≡ received-counts t received ⌝ }
+    ensures { λ r. ⌜ r ≡ after t (Call.receives (received .answer)) ⌝ }
 {
     let answer = received.answer;
     ticket::after_receive(t, answer)

@@ -1,14 +1,14 @@
 // Drives two ends of a link from text: a command a line on standard input, and a line for each on standard output. Here bytes are
 // only moved: what is printed is said by the library.
-use drive_lib::Drive;
 use libc::STDERR_FILENO;
 use libc::STDIN_FILENO;
 use libc::STDOUT_FILENO;
+use pair::Drive;
 ghost use mathlib.Core.Path.{_≡_};
 ghost use Prim.Native.Nat.{_+_, _≤_, _<_};
 ghost use lib.ListN.{length};
 ghost use Rattle.crc.specs.Register.{table};
-ghost use Rattle.drive_lib.specs.Drive.{Ready, Buffers};
+ghost use Rattle.pair.specs.Pair.{Ready};
 
 // How far the input is used: what stands in its buffer from one place up to another is not. The turns left, and whether one more is to
 // come.
@@ -45,7 +45,14 @@ fn drive() {
     let mut bytes = [0u8; 2000];
     let mut input = io::large_buffer();
     let mut out = [0u8; 131072];
-    let begun = drive_lib::begin(&mut store_a, &mut hold_a, &mut store_b, &mut hold_b);
+    let begun = drive_lib::begin(
+        &mut store_a,
+        &mut hold_a,
+        &mut store_b,
+        &mut hold_b,
+        &mut line,
+        &mut bytes,
+    );
     let driven = drive_all(
         &t,
         begun,
@@ -66,11 +73,11 @@ fn drive() {
         &mut hold_a,
         &mut store_b,
         &mut hold_b,
-        &line,
+        &mut line,
         &mut bytes,
         &mut out,
     );
-    write_last(&out, last, driven.failed);
+    write_last(&out, last.at, driven.failed);
 }
 
 // A proved loop has to end, and nothing says that the input does. So the loop counts its turns down, from a number that no run
@@ -87,8 +94,8 @@ fn drive_all(
     input: &mut [u8],
     out: &mut [u8],
 ) -> Driven
-    requires { ⌜ (now t ≡ table) × Ready d × Buffers (now «store_a») (now «hold_a») (now «store_b») (now «hold_b») (now line) (now bytes) × (8192 ≤ length (now out)) ⌝ }
-    ensures { λ r. ⌜ Ready (r .kept) ⌝ }
+    requires { ⌜ (now t ≡ table) × Ready d (now «store_a») (now «hold_a») (now «store_b») (now «hold_b») (now line) (now bytes) × (8192 ≤ length (now out)) ⌝ }
+    ensures { λ r. ⌜ Ready (r .kept) (now («store_a» .exit)) (now («hold_a» .exit)) (now («store_b» .exit)) (now («hold_b» .exit)) (now (line .exit)) (now (bytes .exit)) ⌝ }
 {
     let mut kept = d;
     let mut turn = first_turn();

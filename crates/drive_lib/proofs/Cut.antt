@@ -7,7 +7,8 @@ use native.Mathlib.Nat.{add-suc, add-zero}
 use native.Mathlib.Omega.{arith}
 use lib.ListN.{length, take, getD, length-append, List·getD-append}
 use lib.Seq.{getD-append-add, getD-take, length-take-le}
-use Rattle.drive_lib.specs.Drive.{State, Session, begun, byte, session, finished, run}
+use Rattle.pair.specs.Pair.{State, Session, byte}
+use Rattle.drive_lib.specs.Drive.{begun, session, finished, run}
 
 -- one session after another
 abbrev followed : Session → Session → Session
@@ -78,6 +79,6 @@ parts-whole s (part ∷ parts) =
     ap (followed (whole s part)) (parts-whole (whole s part .state) parts) ∙ sym (session-cut s part (joined parts))
 
 -- what is printed for an input, whatever its parts
-pub run-parts : (parts : List (List ℕ)) → in-turn begun parts .lines ++ finished (in-turn begun parts .state) ≡ run (joined parts)
+pub run-parts : (parts : List (List ℕ)) → in-turn begun parts .lines ++ finished (in-turn begun parts .state) .lines ≡ run (joined parts)
 unfolding run
-run-parts parts = ap (λ (s : Session). s .lines ++ finished (s .state)) (parts-whole begun parts)
+run-parts parts = ap (λ (s : Session). s .lines ++ finished (s .state) .lines) (parts-whole begun parts)

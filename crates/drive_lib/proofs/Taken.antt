@@ -11,7 +11,8 @@ use borrow.Author.Tests.{lt-ltb, le-leb, lt-leb, leb-true, leb-false}
 use lib.Dec.{ltb, leb}
 use lib.ListN.{length}
 use Rattle.ends.proofs.Tests.{cond-true, cond-false}
-use Rattle.drive_lib.specs.Drive.{State, session, taken}
+use Rattle.pair.specs.Pair.{State}
+use Rattle.drive_lib.specs.Drive.{session, taken}
 
 -- ---- a try more, where a line has room and where it has none
 

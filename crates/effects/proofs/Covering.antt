@@ -20,7 +20,7 @@ use Rattle.answers.specs.Answers.{mode-answer}
 use Rattle.answers.specs.declared.Answer.{Answer}
 use Rattle.answers.proofs.Found.{Fits, found}
 use Rattle.acknowledge.specs.Acknowledge.{Covered, freed-by, freed, sent-anew, acknowledged}
-use Rattle.effects.specs.Effects.{informed, replay-taken}
+use Rattle.taken.specs.Taken.{informed, replay-taken}
 
 -- the numbers of a state fit their type
 pub record Fitting (e : End) : Type 0 where

@@ -1,3 +1,1 @@
 pub mod Covering
-pub mod Newest
-pub mod Steps

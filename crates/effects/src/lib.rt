@@ -6,15 +6,13 @@ use flits::Fields;
 use numbers::FlitCount;
 ghost use mathlib.Core.Path.{_≡_};
 ghost use mathlib.Core.Bool.{Bool, true};
-ghost use mathlib.Core.List.{_∷_};
 ghost use Prim.Native.Nat.{_+_, _≤_};
-ghost use lib.ListN.{length, take};
-ghost use Rattle.ends.specs.Update.{with-mode as with-mode-of, with-gathered};
+ghost use lib.ListN.{length};
+ghost use Rattle.ends.specs.Update.{with-mode as with-mode-of, with-discards, with-gathered};
+ghost use Rattle.ends.specs.declared.state.Mode.the-variants.{Run};
 ghost use Rattle.ends.specs.Refusals.{store-is, sound};
-ghost use Rattle.arrivals.specs.Arrivals.{newly-covered};
 ghost use Rattle.answers.specs.Answers.{mode-answer};
-ghost use Rattle.effects.specs.Effects.{waiting as waiting-of, discarded as discarded-of, down as down-of, idled as idled-of, closed as closed-of, delivered as delivered-of, informed as informed-of, replay-taken as replay-taken-of, ahead-in, end-after as end-after-of};
-ghost use Rattle.acknowledge.specs.Acknowledge.{Covered};
+ghost use Rattle.effects.specs.Effects.{waiting as waiting-of, discarded as discarded-of, down as down-of, ahead-in, end-after as end-after-of};
 
 // The end in another mode.
 fn with_mode(e: End, mode: Mode) -> End
@@ -71,91 +69,13 @@ fn held(e: End) -> End
     next
 }
 
-// An idle flit: its acknowledgement counts, and stalled takes its bit.
-fn idled(e: End, store: &[u8], f: Fields) -> End
-    requires { ⌜ Covered e (now store) (f .acks .0) ⌝ }
-    ensures { λ r. ⌜ r ≡ idled-of e (now (store .entry)) f ⌝ }
+// Replayed: mode run, discards 0.
+fn running(e: End) -> End
+    ensures { λ r. ⌜ r ≡ with-mode-of Run (with-discards 0 e) ⌝ }
 {
-    let mut next = acknowledge::acknowledged(e, store, f.acks);
-    next.stalled = f.stalled;
-    next
-}
-
-// A control flit closes its unit.
-fn closed(e: End, store: &[u8], f: Fields) -> End
-    requires { ⌜ Covered e (now store) (f .acks .0) × (e .gathered .0 ≤ 8) ⌝ }
-    ensures { λ r. ⌜ r ≡ closed-of e (now (store .entry)) f ⌝ }
-{
-    let position = numbers::number_after(e.position, FlitCount(e.gathered.0 + 1));
-    let none = FlitCount(0);
-    let owed = f.run;
-    let mut next = idled(e, store, f);
-    next.position = position;
-    next.gathered = none;
-    next.owed = owed;
-    next
-}
-
-// A delivery: wanted moves too, and untold grows by the unit's flits.
-fn delivered(e: End, store: &[u8], f: Fields) -> End
-    requires { ⌜ Covered e (now store) (f .acks .0) × (e .gathered .0 ≤ 8) × (e .untold .0 ≤ 1024) ⌝ }
-    ensures { λ r. ⌜ r ≡ delivered-of e (now (store .entry)) f ⌝ }
-{
-    let flits = FlitCount(e.gathered.0 + 1);
-    let wanted = numbers::wanted_from(numbers::number_after(
-        numbers::wanted_number(e.wanted),
-        flits,
-    ));
-    let untold = FlitCount(e.untold.0 + flits.0);
-    let mut next = closed(e, store, f);
-    next.wanted = wanted;
-    next.untold = untold;
-    next
-}
-
-// The newest link information first.
-fn informed(e: End, information: u64) -> End
-    ensures { λ r. ⌜ r ≡ informed-of information e ⌝ }
-{
-    let old = e.information;
-    let kept = newest_first(old, information);
     let mut next = e;
-    next.information = kept;
-    next
-}
-
-// One value more before the others, of which the oldest goes.
-fn newest_first(old: [u64; 8], newest: u64) -> [u64; 8]
-    ensures { λ r. ⌜ r ≡ newest ∷ take 7 old ⌝ }
-{
-    [
-        newest,
-        old[0],
-        old[1],
-        old[2],
-        old[3],
-        old[4],
-        old[5],
-        old[6],
-    ]
-}
-
-// A replay flit: acknowledgement, link information, NACK, position, owed and stalled.
-fn replay_taken(e: End, store: &[u8], f: Fields) -> End
-    requires { ⌜ Covered e (now store) (newly-covered e (f .last .0)) ⌝ }
-    ensures { λ r. ⌜ r ≡ replay-taken-of e (now (store .entry)) f ⌝ }
-{
-    let covered = arrivals::newly_covered(e, f);
-    let told = acknowledge::acknowledged(e, store, covered);
-    let mut next = acknowledge::sent_anew(informed(told, f.information), f.nack);
-    let none = FlitCount(0);
-    let owed = f.previous;
-    let position = f.start;
-    next.stalled = f.stalled;
-    next.owed = owed;
-    next.gathered = none;
-    next.position = position;
-    next
+    next.discards = 0;
+    with_mode(next, Mode::Run)
 }
 
 // Ahead: as damage in mode run, as one more discarded in mode wait.
@@ -178,17 +98,13 @@ pub fn end_after(answer: Answer, e: End, store: &[u8], f: Fields) -> End
     match answer {
         Answer::Refused(_) => e,
         Answer::Held => held(e),
-        Answer::Delivered(_) => delivered(e, store, f),
-        Answer::Duplicate => closed(e, store, f),
-        Answer::Idle => idled(e, store, f),
-        Answer::Replayed => {
-            let mut next = replay_taken(e, store, f);
-            next.discards = 0;
-            with_mode(next, Mode::Run)
-        }
+        Answer::Delivered(_) => taken::delivered(e, store, f),
+        Answer::Duplicate => taken::closed(e, store, f),
+        Answer::Idle => taken::idled(e, store, f),
+        Answer::Replayed => { running(taken::replay_taken(e, store, f)) }
         Answer::Ahead => {
             let mode = e.mode;
-            ahead(mode, replay_taken(e, store, f))
+            ahead(mode, taken::replay_taken(e, store, f))
         }
         Answer::Skipped => e,
         Answer::Damaged => waiting(e),

@@ -18,14 +18,18 @@ use Rattle.ends.specs.State as state
 use Rattle.ends.specs.Ring as ring
 use Rattle.ends.specs.Ring.{flit-at}
 use Rattle.ends.specs.Refusals as refusals
+use Rattle.admission.specs.Admission as admission
 use Rattle.accept.specs.Accept as accept
 use Rattle.units.specs.Units as units
+use Rattle.moves.specs.Moves as moves
+use Rattle.replays.specs.Replays as replays
 use Rattle.burst.specs.Burst as burst
 use Rattle.send.specs.Send as send
 use Rattle.arrivals.specs.Arrivals as arrivals
 use Rattle.answers.specs.Answers as answers
 use Rattle.answers.specs.declared.Answer.the-variants as answer
 use Rattle.acknowledge.specs.Acknowledge as acknowledge
+use Rattle.taken.specs.Taken as taken
 use Rattle.effects.specs.Effects as effects
 use Rattle.receive.specs.Receive as receive
 use Rattle.wire.specs.Damage as damage
@@ -109,7 +113,7 @@ unit-b-bytes = bytes-tested unit-b refl
 -- ---- a run with everything in it
 
 pub full-fair : Fair full-run fresh-pair
-unfolding numbers.acknowledge-number numbers.after numbers.difference numbers.wanted-by unit.bits unit.polynomial unit.right seal.check-of seal.sealed seal.with-check bytes.bytes bytes.number fields.acceptable fields.fields-of flits.bare-control flits.control-told flits.idle-flit flits.replay-flit state.fresh state.start state.store-fits ring.begun ring.flit-at ring.passed ring.place ring.put-at ring.walk refusals.counts-sound refusals.numbers-sound refusals.sound refusals.store-is refusals.units-sound accept.accept accept.accept-store accept.unit-shaped accept.verdict accept.written burst.burst burst.burst-flits burst.moved burst.replay-sent send.send send.send-output units.stored-flits units.unit-sent send.verdict arrivals.closes arrivals.damaged arrivals.holds arrivals.run-wrong arrivals.newly-covered arrivals.past-sent answers.plain-answer answers.replay-answer answers.run-answer arrivals.skips arrivals.stall-wrong arrivals.straddles answers.wait-answer acknowledge.acknowledged acknowledge.freed acknowledge.last-border receive.answer-to effects.closed effects.delivered effects.discarded effects.end-after receive.hold-after receive.receive receive.receive-hold effects.replay-taken receive.verdict effects.waiting damage.reads-replay damage.sent-replay damage.units-of system.on-the-way fresh-pair output unit-a unit-b a-sent a-hurt b-sent asks starts full-run
+unfolding numbers.acknowledge-number numbers.after numbers.difference numbers.wanted-by unit.bits unit.polynomial unit.right seal.check-of seal.sealed seal.with-check bytes.bytes bytes.number fields.acceptable fields.fields-of flits.bare-control flits.control-told flits.idle-flit flits.replay-flit state.fresh state.start state.store-fits ring.begun ring.flit-at ring.passed ring.place ring.put-at ring.walk refusals.counts-sound refusals.numbers-sound refusals.sound refusals.store-is refusals.units-sound accept.accept accept.accept-store admission.unit-shaped admission.verdict accept.written burst.burst burst.burst-flits moves.moved replays.replay-sent send.send send.send-output units.stored-flits units.unit-sent send.verdict arrivals.closes arrivals.damaged arrivals.holds arrivals.run-wrong arrivals.newly-covered arrivals.past-sent answers.plain-answer answers.replay-answer answers.run-answer arrivals.skips arrivals.stall-wrong arrivals.straddles answers.wait-answer acknowledge.acknowledged acknowledge.freed acknowledge.last-border receive.answer-to taken.closed taken.delivered effects.discarded effects.end-after receive.hold-after receive.receive receive.receive-hold taken.replay-taken receive.verdict effects.waiting damage.reads-replay damage.sent-replay damage.units-of system.on-the-way fresh-pair output unit-a unit-b a-sent a-hurt b-sent asks starts full-run
 full-fair =
     (unit-a-bytes, ((omega arith, omega arith, (a-altered, tt)), (tt, ((omega arith, omega arith, (asks-arrives, (asks-arrives, tt))), (tt, ((omega arith, omega arith, (starts-arrives, (starts-arrives, tt))), ((omega arith, omega arith, (a-arrives, tt)), (tt, (tt, (tt, (tt, ((omega arith, omega arith, (starts-arrives, (starts-arrives, tt))), ((omega arith, omega arith, (a-arrives, tt)), (tt, (tt, (tt, (unit-b-bytes, ((omega arith, omega arith, (b-arrives, tt)), (tt, tt)))))))))))))))))))
 
@@ -117,11 +121,11 @@ full-fair =
 pub full-answers : answers-in full-run fresh-pair
     ≡ answer.Damaged ∷ answer.Replayed ∷ answer.Replayed ∷ answer.Replayed ∷ answer.Delivered (record { 0 = 0 }) ∷ answer.Replayed ∷ answer.Replayed ∷ answer.Replayed
     ∷ answer.Duplicate ∷ answer.Delivered (record { 0 = 0 }) ∷ []
-unfolding numbers.acknowledge-number numbers.after numbers.difference numbers.wanted-by unit.bits unit.polynomial unit.right seal.check-of seal.sealed seal.with-check bytes.bytes bytes.number fields.acceptable fields.fields-of flits.bare-control flits.control-told flits.idle-flit flits.replay-flit state.fresh state.start state.store-fits ring.begun ring.flit-at ring.passed ring.place ring.put-at ring.walk refusals.counts-sound refusals.numbers-sound refusals.sound refusals.store-is refusals.units-sound accept.accept accept.accept-store accept.unit-shaped accept.verdict accept.written burst.burst burst.burst-flits burst.moved burst.replay-sent send.send send.send-output units.stored-flits units.unit-sent send.verdict arrivals.closes arrivals.damaged arrivals.holds arrivals.run-wrong arrivals.newly-covered arrivals.past-sent answers.plain-answer answers.replay-answer answers.run-answer arrivals.skips arrivals.stall-wrong arrivals.straddles answers.wait-answer acknowledge.acknowledged acknowledge.freed acknowledge.last-border receive.answer-to effects.closed effects.delivered effects.discarded effects.end-after receive.hold-after receive.receive receive.receive-hold effects.replay-taken receive.verdict effects.waiting damage.reads-replay damage.sent-replay damage.units-of system.on-the-way fresh-pair output unit-a unit-b a-sent a-hurt b-sent asks starts full-run
+unfolding numbers.acknowledge-number numbers.after numbers.difference numbers.wanted-by unit.bits unit.polynomial unit.right seal.check-of seal.sealed seal.with-check bytes.bytes bytes.number fields.acceptable fields.fields-of flits.bare-control flits.control-told flits.idle-flit flits.replay-flit state.fresh state.start state.store-fits ring.begun ring.flit-at ring.passed ring.place ring.put-at ring.walk refusals.counts-sound refusals.numbers-sound refusals.sound refusals.store-is refusals.units-sound accept.accept accept.accept-store admission.unit-shaped admission.verdict accept.written burst.burst burst.burst-flits moves.moved replays.replay-sent send.send send.send-output units.stored-flits units.unit-sent send.verdict arrivals.closes arrivals.damaged arrivals.holds arrivals.run-wrong arrivals.newly-covered arrivals.past-sent answers.plain-answer answers.replay-answer answers.run-answer arrivals.skips arrivals.stall-wrong arrivals.straddles answers.wait-answer acknowledge.acknowledged acknowledge.freed acknowledge.last-border receive.answer-to taken.closed taken.delivered effects.discarded effects.end-after receive.hold-after receive.receive receive.receive-hold taken.replay-taken receive.verdict effects.waiting damage.reads-replay damage.sent-replay damage.units-of system.on-the-way fresh-pair output unit-a unit-b a-sent a-hurt b-sent asks starts full-run
 full-answers = refl
 
 pub full-outcome : outcome (run full-run fresh-pair) ≡ (unit-a ∷ [], unit-b ∷ [], unit-a ∷ [])
-unfolding numbers.acknowledge-number numbers.after numbers.difference numbers.wanted-by unit.bits unit.polynomial unit.right seal.check-of seal.sealed seal.with-check bytes.bytes bytes.number fields.acceptable fields.fields-of flits.bare-control flits.control-told flits.idle-flit flits.replay-flit state.fresh state.start state.store-fits ring.begun ring.flit-at ring.passed ring.place ring.put-at ring.walk refusals.counts-sound refusals.numbers-sound refusals.sound refusals.store-is refusals.units-sound accept.accept accept.accept-store accept.unit-shaped accept.verdict accept.written burst.burst burst.burst-flits burst.moved burst.replay-sent send.send send.send-output units.stored-flits units.unit-sent send.verdict arrivals.closes arrivals.damaged arrivals.holds arrivals.run-wrong arrivals.newly-covered arrivals.past-sent answers.plain-answer answers.replay-answer answers.run-answer arrivals.skips arrivals.stall-wrong arrivals.straddles answers.wait-answer acknowledge.acknowledged acknowledge.freed acknowledge.last-border receive.answer-to effects.closed effects.delivered effects.discarded effects.end-after receive.hold-after receive.receive receive.receive-hold effects.replay-taken receive.verdict effects.waiting damage.reads-replay damage.sent-replay damage.units-of system.on-the-way fresh-pair output unit-a unit-b a-sent a-hurt b-sent asks starts full-run
+unfolding numbers.acknowledge-number numbers.after numbers.difference numbers.wanted-by unit.bits unit.polynomial unit.right seal.check-of seal.sealed seal.with-check bytes.bytes bytes.number fields.acceptable fields.fields-of flits.bare-control flits.control-told flits.idle-flit flits.replay-flit state.fresh state.start state.store-fits ring.begun ring.flit-at ring.passed ring.place ring.put-at ring.walk refusals.counts-sound refusals.numbers-sound refusals.sound refusals.store-is refusals.units-sound accept.accept accept.accept-store admission.unit-shaped admission.verdict accept.written burst.burst burst.burst-flits moves.moved replays.replay-sent send.send send.send-output units.stored-flits units.unit-sent send.verdict arrivals.closes arrivals.damaged arrivals.holds arrivals.run-wrong arrivals.newly-covered arrivals.past-sent answers.plain-answer answers.replay-answer answers.run-answer arrivals.skips arrivals.stall-wrong arrivals.straddles answers.wait-answer acknowledge.acknowledged acknowledge.freed acknowledge.last-border receive.answer-to taken.closed taken.delivered effects.discarded effects.end-after receive.hold-after receive.receive receive.receive-hold taken.replay-taken receive.verdict effects.waiting damage.reads-replay damage.sent-replay damage.units-of system.on-the-way fresh-pair output unit-a unit-b a-sent a-hurt b-sent asks starts full-run
 full-outcome = refl
 
 lent : Lent (replicate 576 0) (replicate 576 0)
@@ -181,17 +185,17 @@ altered-3 =
     }
 
 pub data-fair : Fair data-run fresh-pair
-unfolding numbers.acknowledge-number numbers.after numbers.difference numbers.wanted-by unit.bits unit.polynomial unit.right seal.check-of seal.sealed seal.with-check bytes.bytes bytes.number fields.acceptable fields.fields-of flits.bare-control flits.control-told flits.idle-flit flits.replay-flit state.fresh state.start state.store-fits ring.begun ring.flit-at ring.passed ring.place ring.put-at ring.walk refusals.counts-sound refusals.numbers-sound refusals.sound refusals.store-is refusals.units-sound accept.accept accept.accept-store accept.unit-shaped accept.verdict accept.written burst.burst burst.burst-flits burst.moved burst.replay-sent send.send send.send-output units.stored-flits units.unit-sent send.verdict arrivals.closes arrivals.damaged arrivals.holds arrivals.run-wrong arrivals.newly-covered arrivals.past-sent answers.plain-answer answers.replay-answer answers.run-answer arrivals.skips arrivals.stall-wrong arrivals.straddles answers.wait-answer acknowledge.acknowledged acknowledge.freed acknowledge.last-border receive.answer-to effects.closed effects.delivered effects.discarded effects.end-after receive.hold-after receive.receive receive.receive-hold effects.replay-taken receive.verdict effects.waiting damage.reads-replay damage.sent-replay damage.units-of system.on-the-way fresh-pair output unit-1 unit-2 unit-3 idle-sent sent-1 sent-2 sent-3 hurt-3 data-run
+unfolding numbers.acknowledge-number numbers.after numbers.difference numbers.wanted-by unit.bits unit.polynomial unit.right seal.check-of seal.sealed seal.with-check bytes.bytes bytes.number fields.acceptable fields.fields-of flits.bare-control flits.control-told flits.idle-flit flits.replay-flit state.fresh state.start state.store-fits ring.begun ring.flit-at ring.passed ring.place ring.put-at ring.walk refusals.counts-sound refusals.numbers-sound refusals.sound refusals.store-is refusals.units-sound accept.accept accept.accept-store admission.unit-shaped admission.verdict accept.written burst.burst burst.burst-flits moves.moved replays.replay-sent send.send send.send-output units.stored-flits units.unit-sent send.verdict arrivals.closes arrivals.damaged arrivals.holds arrivals.run-wrong arrivals.newly-covered arrivals.past-sent answers.plain-answer answers.replay-answer answers.run-answer arrivals.skips arrivals.stall-wrong arrivals.straddles answers.wait-answer acknowledge.acknowledged acknowledge.freed acknowledge.last-border receive.answer-to taken.closed taken.delivered effects.discarded effects.end-after receive.hold-after receive.receive receive.receive-hold taken.replay-taken receive.verdict effects.waiting damage.reads-replay damage.sent-replay damage.units-of system.on-the-way fresh-pair output unit-1 unit-2 unit-3 idle-sent sent-1 sent-2 sent-3 hurt-3 data-run
 data-fair =
     (data-1, (data-2, (data-3, ((omega arith, omega arith, (arrives-1, tt)), ((omega arith, omega arith, (arrives-idle, (arrives-2, tt))), ((omega arith, omega arith, (arrives-idle, (altered-3, tt))), (tt, (tt, (tt, (tt, (tt, (tt, (tt, tt)))))))))))))
 
 pub data-answers : answers-in data-run fresh-pair
     ≡ answer.Delivered (record { 0 = 0 }) ∷ answer.Idle ∷ answer.Held ∷ answer.Delivered (record { 0 = 1 }) ∷ answer.Idle ∷ answer.Held ∷ answer.Damaged ∷ []
-unfolding numbers.acknowledge-number numbers.after numbers.difference numbers.wanted-by unit.bits unit.polynomial unit.right seal.check-of seal.sealed seal.with-check bytes.bytes bytes.number fields.acceptable fields.fields-of flits.bare-control flits.control-told flits.idle-flit flits.replay-flit state.fresh state.start state.store-fits ring.begun ring.flit-at ring.passed ring.place ring.put-at ring.walk refusals.counts-sound refusals.numbers-sound refusals.sound refusals.store-is refusals.units-sound accept.accept accept.accept-store accept.unit-shaped accept.verdict accept.written burst.burst burst.burst-flits burst.moved burst.replay-sent send.send send.send-output units.stored-flits units.unit-sent send.verdict arrivals.closes arrivals.damaged arrivals.holds arrivals.run-wrong arrivals.newly-covered arrivals.past-sent answers.plain-answer answers.replay-answer answers.run-answer arrivals.skips arrivals.stall-wrong arrivals.straddles answers.wait-answer acknowledge.acknowledged acknowledge.freed acknowledge.last-border receive.answer-to effects.closed effects.delivered effects.discarded effects.end-after receive.hold-after receive.receive receive.receive-hold effects.replay-taken receive.verdict effects.waiting damage.reads-replay damage.sent-replay damage.units-of system.on-the-way fresh-pair output unit-1 unit-2 unit-3 idle-sent sent-1 sent-2 sent-3 hurt-3 data-run
+unfolding numbers.acknowledge-number numbers.after numbers.difference numbers.wanted-by unit.bits unit.polynomial unit.right seal.check-of seal.sealed seal.with-check bytes.bytes bytes.number fields.acceptable fields.fields-of flits.bare-control flits.control-told flits.idle-flit flits.replay-flit state.fresh state.start state.store-fits ring.begun ring.flit-at ring.passed ring.place ring.put-at ring.walk refusals.counts-sound refusals.numbers-sound refusals.sound refusals.store-is refusals.units-sound accept.accept accept.accept-store admission.unit-shaped admission.verdict accept.written burst.burst burst.burst-flits moves.moved replays.replay-sent send.send send.send-output units.stored-flits units.unit-sent send.verdict arrivals.closes arrivals.damaged arrivals.holds arrivals.run-wrong arrivals.newly-covered arrivals.past-sent answers.plain-answer answers.replay-answer answers.run-answer arrivals.skips arrivals.stall-wrong arrivals.straddles answers.wait-answer acknowledge.acknowledged acknowledge.freed acknowledge.last-border receive.answer-to taken.closed taken.delivered effects.discarded effects.end-after receive.hold-after receive.receive receive.receive-hold taken.replay-taken receive.verdict effects.waiting damage.reads-replay damage.sent-replay damage.units-of system.on-the-way fresh-pair output unit-1 unit-2 unit-3 idle-sent sent-1 sent-2 sent-3 hurt-3 data-run
 data-answers = refl
 
 pub data-outcome : outcome (run data-run fresh-pair) ≡ (unit-1 ∷ unit-2 ∷ [], [], unit-1 ∷ unit-2 ∷ unit-3 ∷ [])
-unfolding numbers.acknowledge-number numbers.after numbers.difference numbers.wanted-by unit.bits unit.polynomial unit.right seal.check-of seal.sealed seal.with-check bytes.bytes bytes.number fields.acceptable fields.fields-of flits.bare-control flits.control-told flits.idle-flit flits.replay-flit state.fresh state.start state.store-fits ring.begun ring.flit-at ring.passed ring.place ring.put-at ring.walk refusals.counts-sound refusals.numbers-sound refusals.sound refusals.store-is refusals.units-sound accept.accept accept.accept-store accept.unit-shaped accept.verdict accept.written burst.burst burst.burst-flits burst.moved burst.replay-sent send.send send.send-output units.stored-flits units.unit-sent send.verdict arrivals.closes arrivals.damaged arrivals.holds arrivals.run-wrong arrivals.newly-covered arrivals.past-sent answers.plain-answer answers.replay-answer answers.run-answer arrivals.skips arrivals.stall-wrong arrivals.straddles answers.wait-answer acknowledge.acknowledged acknowledge.freed acknowledge.last-border receive.answer-to effects.closed effects.delivered effects.discarded effects.end-after receive.hold-after receive.receive receive.receive-hold effects.replay-taken receive.verdict effects.waiting damage.reads-replay damage.sent-replay damage.units-of system.on-the-way fresh-pair output unit-1 unit-2 unit-3 idle-sent sent-1 sent-2 sent-3 hurt-3 data-run
+unfolding numbers.acknowledge-number numbers.after numbers.difference numbers.wanted-by unit.bits unit.polynomial unit.right seal.check-of seal.sealed seal.with-check bytes.bytes bytes.number fields.acceptable fields.fields-of flits.bare-control flits.control-told flits.idle-flit flits.replay-flit state.fresh state.start state.store-fits ring.begun ring.flit-at ring.passed ring.place ring.put-at ring.walk refusals.counts-sound refusals.numbers-sound refusals.sound refusals.store-is refusals.units-sound accept.accept accept.accept-store admission.unit-shaped admission.verdict accept.written burst.burst burst.burst-flits moves.moved replays.replay-sent send.send send.send-output units.stored-flits units.unit-sent send.verdict arrivals.closes arrivals.damaged arrivals.holds arrivals.run-wrong arrivals.newly-covered arrivals.past-sent answers.plain-answer answers.replay-answer answers.run-answer arrivals.skips arrivals.stall-wrong arrivals.straddles answers.wait-answer acknowledge.acknowledged acknowledge.freed acknowledge.last-border receive.answer-to taken.closed taken.delivered effects.discarded effects.end-after receive.hold-after receive.receive receive.receive-hold taken.replay-taken receive.verdict effects.waiting damage.reads-replay damage.sent-replay damage.units-of system.on-the-way fresh-pair output unit-1 unit-2 unit-3 idle-sent sent-1 sent-2 sent-3 hurt-3 data-run
 data-outcome = refl
 
 -- ---- a wrong unit is no first part
@@ -215,12 +219,12 @@ unfolding lures closes-lure
 lure-bytes = bytes-tested (lures ++ closes-lure) refl
 
 pub lured-fair : FairBy (Damage window-bits) lured-run fresh-pair
-unfolding numbers.acknowledge-number numbers.after numbers.difference numbers.wanted-by unit.bits unit.polynomial unit.right seal.check-of seal.sealed seal.with-check bytes.bytes bytes.number fields.acceptable fields.fields-of flits.bare-control flits.control-told flits.idle-flit flits.replay-flit state.fresh state.start state.store-fits ring.begun ring.flit-at ring.passed ring.place ring.put-at ring.walk refusals.counts-sound refusals.numbers-sound refusals.sound refusals.store-is refusals.units-sound accept.accept accept.accept-store accept.unit-shaped accept.verdict accept.written burst.burst burst.burst-flits burst.moved burst.replay-sent send.send send.send-output units.stored-flits units.unit-sent send.verdict arrivals.closes arrivals.damaged arrivals.holds arrivals.run-wrong arrivals.newly-covered arrivals.past-sent answers.plain-answer answers.replay-answer answers.run-answer arrivals.skips arrivals.stall-wrong arrivals.straddles answers.wait-answer acknowledge.acknowledged acknowledge.freed acknowledge.last-border receive.answer-to effects.closed effects.delivered effects.discarded effects.end-after receive.hold-after receive.receive receive.receive-hold effects.replay-taken receive.verdict effects.waiting damage.reads-replay damage.sent-replay damage.units-of system.on-the-way fresh-pair output owes-one lures closes-lure owes-sent owes-hurt idle-sent lure-sent lured-run
+unfolding numbers.acknowledge-number numbers.after numbers.difference numbers.wanted-by unit.bits unit.polynomial unit.right seal.check-of seal.sealed seal.with-check bytes.bytes bytes.number fields.acceptable fields.fields-of flits.bare-control flits.control-told flits.idle-flit flits.replay-flit state.fresh state.start state.store-fits ring.begun ring.flit-at ring.passed ring.place ring.put-at ring.walk refusals.counts-sound refusals.numbers-sound refusals.sound refusals.store-is refusals.units-sound accept.accept accept.accept-store admission.unit-shaped admission.verdict accept.written burst.burst burst.burst-flits moves.moved replays.replay-sent send.send send.send-output units.stored-flits units.unit-sent send.verdict arrivals.closes arrivals.damaged arrivals.holds arrivals.run-wrong arrivals.newly-covered arrivals.past-sent answers.plain-answer answers.replay-answer answers.run-answer arrivals.skips arrivals.stall-wrong arrivals.straddles answers.wait-answer acknowledge.acknowledged acknowledge.freed acknowledge.last-border receive.answer-to taken.closed taken.delivered effects.discarded effects.end-after receive.hold-after receive.receive receive.receive-hold taken.replay-taken receive.verdict effects.waiting damage.reads-replay damage.sent-replay damage.units-of system.on-the-way fresh-pair output owes-one lures closes-lure owes-sent owes-hurt idle-sent lure-sent lured-run
 lured-fair =
     (owes-bytes, (lure-bytes, ((omega arith, omega arith, (owes-altered, tt)), ((omega arith, omega arith, (unaltered refl, (unaltered refl, tt))), (tt, (tt, (tt, (tt, tt))))))))
 
 pub lured-outcome : outcome (run lured-run fresh-pair) ≡ (closes-lure ∷ [], [], owes-one ∷ (lures ++ closes-lure) ∷ [])
-unfolding numbers.acknowledge-number numbers.after numbers.difference numbers.wanted-by unit.bits unit.polynomial unit.right seal.check-of seal.sealed seal.with-check bytes.bytes bytes.number fields.acceptable fields.fields-of flits.bare-control flits.control-told flits.idle-flit flits.replay-flit state.fresh state.start state.store-fits ring.begun ring.flit-at ring.passed ring.place ring.put-at ring.walk refusals.counts-sound refusals.numbers-sound refusals.sound refusals.store-is refusals.units-sound accept.accept accept.accept-store accept.unit-shaped accept.verdict accept.written burst.burst burst.burst-flits burst.moved burst.replay-sent send.send send.send-output units.stored-flits units.unit-sent send.verdict arrivals.closes arrivals.damaged arrivals.holds arrivals.run-wrong arrivals.newly-covered arrivals.past-sent answers.plain-answer answers.replay-answer answers.run-answer arrivals.skips arrivals.stall-wrong arrivals.straddles answers.wait-answer acknowledge.acknowledged acknowledge.freed acknowledge.last-border receive.answer-to effects.closed effects.delivered effects.discarded effects.end-after receive.hold-after receive.receive receive.receive-hold effects.replay-taken receive.verdict effects.waiting damage.reads-replay damage.sent-replay damage.units-of system.on-the-way fresh-pair output owes-one lures closes-lure owes-sent owes-hurt idle-sent lure-sent lured-run
+unfolding numbers.acknowledge-number numbers.after numbers.difference numbers.wanted-by unit.bits unit.polynomial unit.right seal.check-of seal.sealed seal.with-check bytes.bytes bytes.number fields.acceptable fields.fields-of flits.bare-control flits.control-told flits.idle-flit flits.replay-flit state.fresh state.start state.store-fits ring.begun ring.flit-at ring.passed ring.place ring.put-at ring.walk refusals.counts-sound refusals.numbers-sound refusals.sound refusals.store-is refusals.units-sound accept.accept accept.accept-store admission.unit-shaped admission.verdict accept.written burst.burst burst.burst-flits moves.moved replays.replay-sent send.send send.send-output units.stored-flits units.unit-sent send.verdict arrivals.closes arrivals.damaged arrivals.holds arrivals.run-wrong arrivals.newly-covered arrivals.past-sent answers.plain-answer answers.replay-answer answers.run-answer arrivals.skips arrivals.stall-wrong arrivals.straddles answers.wait-answer acknowledge.acknowledged acknowledge.freed acknowledge.last-border receive.answer-to taken.closed taken.delivered effects.discarded effects.end-after receive.hold-after receive.receive receive.receive-hold taken.replay-taken receive.verdict effects.waiting damage.reads-replay damage.sent-replay damage.units-of system.on-the-way fresh-pair output owes-one lures closes-lure owes-sent owes-hurt idle-sent lure-sent lured-run
 lured-outcome = refl
 
 pub replay-premise-needed : FirstPart (run lured-run fresh-pair .b .handed) (run lured-run fresh-pair .a .accepted) → ⊥
@@ -243,11 +247,11 @@ wider = (
 )
 
 pub stretched-fair : FairBy Wider stretched-run fresh-pair
-unfolding numbers.acknowledge-number numbers.after numbers.difference numbers.wanted-by unit.bits unit.polynomial unit.right seal.check-of seal.sealed seal.with-check bytes.bytes bytes.number fields.acceptable fields.fields-of flits.bare-control flits.control-told flits.idle-flit flits.replay-flit state.fresh state.start state.store-fits ring.begun ring.flit-at ring.passed ring.place ring.put-at ring.walk refusals.counts-sound refusals.numbers-sound refusals.sound refusals.store-is refusals.units-sound accept.accept accept.accept-store accept.unit-shaped accept.verdict accept.written burst.burst burst.burst-flits burst.moved burst.replay-sent send.send send.send-output units.stored-flits units.unit-sent send.verdict arrivals.closes arrivals.damaged arrivals.holds arrivals.run-wrong arrivals.newly-covered arrivals.past-sent answers.plain-answer answers.replay-answer answers.run-answer arrivals.skips arrivals.stall-wrong arrivals.straddles answers.wait-answer acknowledge.acknowledged acknowledge.freed acknowledge.last-border receive.answer-to effects.closed effects.delivered effects.discarded effects.end-after receive.hold-after receive.receive receive.receive-hold effects.replay-taken receive.verdict effects.waiting damage.reads-replay damage.sent-replay damage.units-of system.on-the-way fresh-pair output no-unit stretched stretched-run
+unfolding numbers.acknowledge-number numbers.after numbers.difference numbers.wanted-by unit.bits unit.polynomial unit.right seal.check-of seal.sealed seal.with-check bytes.bytes bytes.number fields.acceptable fields.fields-of flits.bare-control flits.control-told flits.idle-flit flits.replay-flit state.fresh state.start state.store-fits ring.begun ring.flit-at ring.passed ring.place ring.put-at ring.walk refusals.counts-sound refusals.numbers-sound refusals.sound refusals.store-is refusals.units-sound accept.accept accept.accept-store admission.unit-shaped admission.verdict accept.written burst.burst burst.burst-flits moves.moved replays.replay-sent send.send send.send-output units.stored-flits units.unit-sent send.verdict arrivals.closes arrivals.damaged arrivals.holds arrivals.run-wrong arrivals.newly-covered arrivals.past-sent answers.plain-answer answers.replay-answer answers.run-answer arrivals.skips arrivals.stall-wrong arrivals.straddles answers.wait-answer acknowledge.acknowledged acknowledge.freed acknowledge.last-border receive.answer-to taken.closed taken.delivered effects.discarded effects.end-after receive.hold-after receive.receive receive.receive-hold taken.replay-taken receive.verdict effects.waiting damage.reads-replay damage.sent-replay damage.units-of system.on-the-way fresh-pair output no-unit stretched stretched-run
 stretched-fair = (no-unit-bytes, ((omega arith, omega arith, (wider, tt)), (tt, tt)))
 
 pub stretched-outcome : outcome (run stretched-run fresh-pair) ≡ (stretched ∷ [], [], no-unit ∷ [])
-unfolding numbers.acknowledge-number numbers.after numbers.difference numbers.wanted-by unit.bits unit.polynomial unit.right seal.check-of seal.sealed seal.with-check bytes.bytes bytes.number fields.acceptable fields.fields-of flits.bare-control flits.control-told flits.idle-flit flits.replay-flit state.fresh state.start state.store-fits ring.begun ring.flit-at ring.passed ring.place ring.put-at ring.walk refusals.counts-sound refusals.numbers-sound refusals.sound refusals.store-is refusals.units-sound accept.accept accept.accept-store accept.unit-shaped accept.verdict accept.written burst.burst burst.burst-flits burst.moved burst.replay-sent send.send send.send-output units.stored-flits units.unit-sent send.verdict arrivals.closes arrivals.damaged arrivals.holds arrivals.run-wrong arrivals.newly-covered arrivals.past-sent answers.plain-answer answers.replay-answer answers.run-answer arrivals.skips arrivals.stall-wrong arrivals.straddles answers.wait-answer acknowledge.acknowledged acknowledge.freed acknowledge.last-border receive.answer-to effects.closed effects.delivered effects.discarded effects.end-after receive.hold-after receive.receive receive.receive-hold effects.replay-taken receive.verdict effects.waiting damage.reads-replay damage.sent-replay damage.units-of system.on-the-way fresh-pair output no-unit stretched stretched-run
+unfolding numbers.acknowledge-number numbers.after numbers.difference numbers.wanted-by unit.bits unit.polynomial unit.right seal.check-of seal.sealed seal.with-check bytes.bytes bytes.number fields.acceptable fields.fields-of flits.bare-control flits.control-told flits.idle-flit flits.replay-flit state.fresh state.start state.store-fits ring.begun ring.flit-at ring.passed ring.place ring.put-at ring.walk refusals.counts-sound refusals.numbers-sound refusals.sound refusals.store-is refusals.units-sound accept.accept accept.accept-store admission.unit-shaped admission.verdict accept.written burst.burst burst.burst-flits moves.moved replays.replay-sent send.send send.send-output units.stored-flits units.unit-sent send.verdict arrivals.closes arrivals.damaged arrivals.holds arrivals.run-wrong arrivals.newly-covered arrivals.past-sent answers.plain-answer answers.replay-answer answers.run-answer arrivals.skips arrivals.stall-wrong arrivals.straddles answers.wait-answer acknowledge.acknowledged acknowledge.freed acknowledge.last-border receive.answer-to taken.closed taken.delivered effects.discarded effects.end-after receive.hold-after receive.receive receive.receive-hold taken.replay-taken receive.verdict effects.waiting damage.reads-replay damage.sent-replay damage.units-of system.on-the-way fresh-pair output no-unit stretched stretched-run
 stretched-outcome = refl
 
 pub window-sharp : FirstPart (run stretched-run fresh-pair .b .handed) (run stretched-run fresh-pair .a .accepted) → ⊥

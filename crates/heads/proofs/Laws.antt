@@ -1,6 +1,6 @@
 -- What comes before the state, from what the functions say: its parts joined, bytes that are 165, and how long it is. Assumes nothing.
 use mathlib.Core.Bool.{true, false, _&&_}
-use mathlib.Core.List.{List, [], _++_}
+use mathlib.Core.List.{List, [], _∷_, _++_}
 use mathlib.Core.Path.{_≡_, refl, ap, sym, _∙_}
 use Prim.Native.Nat.{ℕ, suc, _+_, _*_, _≤_, _<_}
 use native.Mathlib.Numerals.{add-one}
@@ -9,8 +9,8 @@ use borrow.Author.Tests.{eq-eqb, ne-eqb}
 use lib.Dec.{eqb}
 use lib.ListN.{length, take, drop, getD, length-append, length-take, drop-of-length-le}
 use lib.Seq.{drop-cons}
-use Rattle.text.specs.Text.{ascii, decimal, Puts}
-use Rattle.text.proofs.Laws.{puts-as, written-none, length-decimal}
+use Rattle.text.specs.Text.{ascii, decimal, filled, Puts, field}
+use Rattle.text.proofs.Laws.{puts-none, puts-as, length-decimal, fields-joined}
 use Rattle.dump.specs.Dump.{hex}
 use Rattle.dump.proofs.Laws.{hex-short}
 use Rattle.words.specs.Words.{answer-word}
@@ -20,23 +20,31 @@ use Rattle.answers.specs.Answers.{refusal-number, data-delivered}
 use Rattle.answers.specs.declared.Answer.{Answer}
 use Rattle.send.specs.Send.{refusal-number as send-refusal, flits-written}
 use Rattle.send.specs.declared.Answer.{Answer as SendAnswer}
-use Rattle.heads.specs.Heads.{refuse, untouched, spill, send-head, receive-head}
+use Rattle.heads.specs.Heads.{untouched, spill, send-head, receive-head}
+
+-- ---- its parts
+
+send-numbers : (r f : ℕ)
+    → filled (ascii "send refuse=# flits=# out=") (r ∷ f ∷ []) ≡ field "send refuse=" r ++ field " flits=" f ++ ascii " out="
+unfolding filled
+send-numbers r f = fields-joined (field "send refuse=" r) ((ascii " flits=", f) ∷ []) (ascii " out=")
 
 pub send-head-is : (answer : SendAnswer) (output : List ℕ) (r f : ℕ) (h s : List ℕ) → r ≡ send-refusal answer → f ≡ flits-written answer
     → h ≡ take (flits-written answer * 64) output → s ≡ drop (flits-written answer * 64) output
-    → refuse "send refuse=" r ++ (ascii " flits=" ++ decimal f) ++ ascii " out=" ++ hex h ++ spill s ≡ send-head answer output
+    → filled (ascii "send refuse=# flits=# out=") (r ∷ f ∷ []) ++ hex h ++ spill s ≡ send-head answer output
 unfolding send-head
-send-head-is answer output r f h s a b c d = rw (a, b, c, d) refl
+send-head-is answer output r f h s a b c d =
+    ap (λ (l : List ℕ). l ++ hex h ++ spill s) (send-numbers r f) ∙ rw (a, b, c, d) refl
 
 pub receive-head-is : (answer : Answer) (r d : ℕ) → r ≡ refusal-number answer → d ≡ data-delivered answer
-    → refuse "receive refuse=" r ++ ascii " answer=" ++ answer-word answer ++ (ascii " data=" ++ decimal d) ≡ receive-head answer
-unfolding receive-head
+    → filled (ascii "receive refuse=# answer=") (r ∷ []) ++ answer-word answer ++ (ascii " data=" ++ decimal d) ≡ receive-head answer
+unfolding filled receive-head
 receive-head-is answer r d a b = rw (a, b) refl
 
 pub puts-no-spill : (out rest : List ℕ) (at : ℕ) → untouched rest ≡ true → Puts out at (spill rest) at out
 unfolding spill
 puts-no-spill out rest at h =
-    puts-as (sym (cond-true (untouched rest) [] (ascii " spill") h)) (record { place = omega arith; bytes = sym (written-none out at); size = refl })
+    puts-as (sym (cond-true (untouched rest) [] (ascii " spill") h)) (puts-none out at)
 
 pub puts-spill : (out rest after : List ℕ) (at next : ℕ) → untouched rest ≡ false → Puts out at (ascii " spill") next after → Puts out at (spill rest) next after
 unfolding spill

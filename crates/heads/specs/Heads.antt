@@ -2,10 +2,9 @@
 use mathlib.Core.Bool.{Bool, true, _&&_, cond}
 use mathlib.Core.List.{List, [], _∷_, _++_}
 use Prim.Native.Nat.{ℕ, _*_}
-use Prim.Native.String.{String}
 use lib.Dec.{eqb}
 use lib.ListN.{take, drop}
-use Rattle.text.specs.Text.{ascii, decimal}
+use Rattle.text.specs.Text.{ascii, field}
 use Rattle.dump.specs.Dump.{hex}
 use Rattle.words.specs.Words.{answer-word}
 use Rattle.answers.specs.Answers.{refusal-number, data-delivered}
@@ -14,8 +13,6 @@ use Rattle.send.specs.Send.{refusal-number as send-refusal, flits-written}
 use Rattle.send.specs.declared.Answer.{Answer as SendAnswer}
 
 -- OP refuse=N [flits=K out=HEX] [answer=WORD data=K]
-abbrev pub refuse : String → ℕ → List ℕ
-refuse op n = ascii op ++ decimal n
 
 -- if a byte of the output past the flits is no longer 165, spill follows
 unfoldable pub untouched : List ℕ → Bool
@@ -27,11 +24,11 @@ spill rest = cond (untouched rest) [] (ascii " spill")
 
 unfoldable pub send-head : SendAnswer → List ℕ → List ℕ
 send-head answer output =
-    refuse "send refuse=" (send-refusal answer) ++ (ascii " flits=" ++ decimal (flits-written answer)) ++ ascii " out="
+    field "send refuse=" (send-refusal answer) ++ field " flits=" (flits-written answer) ++ ascii " out="
     ++ hex (take (flits-written answer * 64) output)
     ++ spill (drop (flits-written answer * 64) output)
 
 unfoldable pub receive-head : Answer → List ℕ
 receive-head answer =
-    refuse "receive refuse=" (refusal-number answer) ++ ascii " answer=" ++ answer-word answer
-    ++ (ascii " data=" ++ decimal (data-delivered answer))
+    field "receive refuse=" (refusal-number answer) ++ ascii " answer=" ++ answer-word answer
+    ++ field " data=" (data-delivered answer)

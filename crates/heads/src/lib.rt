@@ -16,10 +16,10 @@ pub fn put_send(out: &mut [u8], at: usize, answer: send::Answer, output: &[u8]) 
     requires { ⌜ (length (now output) ≤ 2000) × (flits-written answer * 64 ≤ length (now output)) × (at + 4200 ≤ length (now out)) ⌝ }
     ensures { λ r. ⌜ Puts (now (out .entry)) at (send-head answer (now (output .entry))) r (now (out .exit)) ⌝ }
 {
-    let bytes = flits_of(answer) * 64;
-    let refused = text::put_field(out, at, b"send refuse=", send_refusal(answer));
-    let flits = text::put_field(out, refused, b" flits=", flits_of(answer) as u64);
-    let word = text::put(out, flits, b" out=");
+    let flits = flits_of(answer);
+    let bytes = flits * 64;
+    let numbers = [send_refusal(answer), flits as u64];
+    let word = text::put_form(out, at, b"send refuse=# flits=# out=", &numbers);
     let written = dump::put_hex(out, word, &output[0..bytes]);
     put_spill(out, written, &output[bytes..])
 }
@@ -30,8 +30,8 @@ pub fn put_receive(out: &mut [u8], at: usize, answer: Answer) -> usize
     ensures { λ r. ⌜ Puts (now (out .entry)) at (receive-head answer) r (now (out .exit)) ⌝ }
 {
     let data = words::data_delivered(answer);
-    let refused = text::put_field(out, at, b"receive refuse=", receive_refusal(answer));
-    let word = text::put(out, refused, b" answer=");
+    let numbers = [receive_refusal(answer)];
+    let word = text::put_form(out, at, b"receive refuse=# answer=", &numbers);
     let after = words::put_answer(out, word, answer);
     text::put_field(out, after, b" data=", data as u64)
 }

@@ -4,10 +4,9 @@ use mathlib.Core.Path.{_≡_, refl}
 use Prim.Native.Nat.{ℕ, _*_, _≤_}
 use native.Mathlib.Omega.{arith}
 use lib.ListN.{length, length-append}
-use Rattle.text.specs.Text.{ascii, decimal, written}
+use Rattle.text.specs.Text.{ascii, decimal, written, field}
 use Rattle.text.proofs.Laws.{length-decimal}
 use Rattle.show.proofs.Laws.{state-short, ticket-short}
-use Rattle.heads.specs.Heads.{refuse}
 use Rattle.heads.proofs.Laws.{send-head-short, receive-head-short}
 use Rattle.ends.specs.Refusals.{previous-run}
 use Rattle.ends.specs.declared.state.End.{End}
@@ -20,7 +19,7 @@ use Rattle.send.proofs.Bursts.{burst-length}
 use Rattle.script.specs.declared.Command.{Command}
 use Rattle.script.specs.declared.Command.the-variants as command
 use Rattle.sides.specs.Sides.{lent, sends, sends-output, receives, fill-fits}
-use Rattle.sides.specs.declared.Side.{Side}
+use Rattle.settings.specs.declared.Side.{Side}
 use Rattle.lines.specs.Lines.{Kept, Did, stated, bad, start-line, accept-line, send-line, receive-line, poke-line, fill-line, lend-line, count-line, did}
 
 -- ---- the flits written are inside the output, and few
@@ -65,7 +64,7 @@ did-short k (command.Receive n) bytes =
 did-short k (command.Poke f v) bytes = stated-short _ _ (refuse-short (ascii "poke refuse=") 0 (omega arith))
 did-short k (command.Fill offset n) bytes =
     cond-either (λ (d : Did). length (d .line) ≤ 8192) (fill-fits (k .side .kept) offset (length bytes))
-    (stated (refuse "fill refuse=" 0) (record { side = k .side; store = written (k .store) offset bytes; hold = k .hold })) (bad k)
+    (stated (field "fill refuse=" 0) (record { side = k .side; store = written (k .store) offset bytes; hold = k .hold })) (bad k)
     (λ _. stated-short _ _ (refuse-short (ascii "fill refuse=") 0 (omega arith)))
     (λ _. bad-short k)
 did-short k (command.Lend store hold) bytes = stated-short _ _ (refuse-short (ascii "lend refuse=") 0 (omega arith))

@@ -4,16 +4,17 @@ use mathlib.Core.List.{List, _++_}
 use mathlib.Core.Path.{_≡_}
 use Prim.Native.Nat.{ℕ, _≤_}
 use lib.ListN.{length, take}
-use Rattle.text.specs.Text.{ascii, written, Puts}
+use Rattle.text.specs.Text.{ascii, field, written, Puts}
 use Rattle.show.specs.Show.{state-text, ticket-text}
-use Rattle.heads.specs.Heads.{refuse, send-head, receive-head}
+use Rattle.heads.specs.Heads.{send-head, receive-head}
 use Rattle.ends.specs.State.{verdict-number}
 use Rattle.names.specs.declared.Field.{Field}
 use Rattle.names.specs.declared.Key.{Key}
 use Rattle.script.specs.declared.Command.{Command}
 use Rattle.script.specs.declared.Command.the-variants as command
-use Rattle.sides.specs.declared.Side.{Side}
-use Rattle.sides.specs.Sides.{repeated, started, accepts, accepts-store, sends, sends-output, receives, receives-hold, pokes, fill-fits, lends, counts}
+use Rattle.settings.specs.Settings.{pokes, lends, counts}
+use Rattle.settings.specs.declared.Side.{Side}
+use Rattle.sides.specs.Sides.{Clean, repeated, started, accepts, accepts-store, sends, sends-output, receives, receives-hold, fill-fits}
 
 -- ---- an end
 
@@ -47,12 +48,12 @@ bad k = record { kept = k; line = bad-line }
 
 unfoldable pub start-line : ℕ → Did
 start-line bytes =
-    stated (refuse "start refuse=" (verdict-number (started bytes .verdict)))
+    stated (field "start refuse=" (verdict-number (started bytes .verdict)))
     (record { side = started bytes .side; store = repeated bytes 0; hold = repeated 576 0 })
 
 unfoldable pub accept-line : Kept → List ℕ → Did
 accept-line k unit =
-    stated (refuse "accept refuse=" (verdict-number (accepts (k .side) (k .store) unit .verdict)))
+    stated (field "accept refuse=" (verdict-number (accepts (k .side) (k .store) unit .verdict)))
     (record { side = accepts (k .side) (k .store) unit .side; store = accepts-store (k .side) (k .store) unit; hold = k .hold })
 
 unfoldable pub send-line : Kept → ℕ → ℕ → ℕ → Did
@@ -70,23 +71,23 @@ receive-line k flit =
     })
 
 unfoldable pub poke-line : Kept → Field → ℕ → Did
-poke-line k f v = stated (refuse "poke refuse=" 0) (record { side = pokes (k .side) f v; store = k .store; hold = k .hold })
+poke-line k f v = stated (field "poke refuse=" 0) (record { side = pokes (k .side) f v; store = k .store; hold = k .hold })
 
 unfoldable pub fill-line : Kept → ℕ → List ℕ → Did
 fill-line k offset bytes =
     cond (fill-fits (k .side .kept) offset (length bytes))
-    (stated (refuse "fill refuse=" 0) (record { side = k .side; store = written (k .store) offset bytes; hold = k .hold }))
+    (stated (field "fill refuse=" 0) (record { side = k .side; store = written (k .store) offset bytes; hold = k .hold }))
     (bad k)
 
 unfoldable pub lend-line : Kept → ℕ → ℕ → Did
-lend-line k store hold = stated (refuse "lend refuse=" 0) (record { side = lends (k .side) store hold; store = k .store; hold = k .hold })
+lend-line k store hold = stated (field "lend refuse=" 0) (record { side = lends (k .side) store hold; store = k .store; hold = k .hold })
 
 -- ticket prints the ticket and no state
 abbrev pub ticket-line : Side → List ℕ
 ticket-line s = ticket-text (s .ticket)
 
 unfoldable pub count-line : Kept → Key → ℕ → Did
-count-line k key n = stated (refuse "count refuse=" 0) (record { side = counts (k .side) key n; store = k .store; hold = k .hold })
+count-line k key n = stated (field "count refuse=" 0) (record { side = counts (k .side) key n; store = k .store; hold = k .hold })
 
 -- a command, with the bytes of its HEX
 unfoldable pub did : Kept → Command → List ℕ → Did
@@ -107,13 +108,19 @@ did k (command.Count key n) bytes = count-line k key n
 abbrev pub kept-in : Side → List ℕ → List ℕ → Kept
 kept-in s store hold = record { side = s; store = take (s .kept) store; hold = take 576 hold }
 
--- the store has at most 70,000 bytes, and at most so many are lent, and at most 2,000 of the hold
-pub record Sized (s : Side) : Type 0 where
+-- a side in its buffers: the store has at most 70,000 bytes, and at most so many are lent, and at most 2,000 of the hold; every byte of the
+-- buffers past what is kept is 0
+pub record Buffered (s : Side) (store hold : List ℕ) : Type 0 where
   pub kept : s .kept ≤ 70000
-  pub store : s .store ≤ 70000
-  pub hold : s .hold ≤ 2000
+  pub store-lent : s .store ≤ 70000
+  pub hold-lent : s .hold ≤ 2000
+  pub store-size : length store ≡ 70000
+  pub hold-size : length hold ≡ 2000
+  pub store-clean : Clean (s .kept) store
+  pub hold-clean : Clean 576 hold
 
 -- what a command leaves stands in the buffers, and its line is put
 pub record Leaves (d : Did) (s : Side) (store hold out : List ℕ) (at next : ℕ) (after : List ℕ) : Type 0 where
   pub kept : kept-in s store hold ≡ d .kept
+  pub buffers : Buffered s store hold
   pub line : Puts out at (d .line) next after

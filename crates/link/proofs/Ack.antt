@@ -4,9 +4,9 @@ use mathlib.Core.Path.{_≡_, refl}
 use mathlib.Core.Bool.{Bool, true, false, true≢false}
 use Prim.Native.Nat.{ℕ, _+_, _≤_}
 use native.Mathlib.Omega.{arith}
-use Rattle.link.specs.Stream.{Stream, num}
-use Rattle.link.specs.End.{Sender, End}
-use Rattle.link.specs.Step.{Acked, keeps, passes, freed, again, nacked, Discard, more, enough}
+use Rattle.link.proofs.Stream.{Stream, num}
+use Rattle.link.proofs.End.{Sender, End}
+use Rattle.link.proofs.Step.{Acked, keeps, passes, freed, again, nacked, Discard, more, enough}
 use Rattle.link.proofs.Num.{num-le, num-of-le}
 use Rattle.link.proofs.Chain.{Chain}
 use Rattle.link.proofs.Inv.{Local, Tail}

@@ -4,8 +4,8 @@ use mathlib.Core.Bool.{false}
 use mathlib.Core.List.{List, []}
 use Prim.Native.Nat.{ℕ}
 use native.Mathlib.Omega.{arith}
-use Rattle.link.specs.Stream.{Stream, Item}
-use Rattle.link.specs.End.{End, fresh}
+use Rattle.link.proofs.Stream.{Stream, Item}
+use Rattle.link.proofs.End.{End, fresh}
 use Rattle.link.proofs.Chain.{Chain}
 use Rattle.link.proofs.Inv.{Local, Way, Inv}
 

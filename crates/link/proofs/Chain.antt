@@ -7,7 +7,7 @@ use mathlib.Core.List.{List, [], _∷_, _++_}
 use Prim.Native.Nat.{ℕ, suc, _+_, _≤_, _<_}
 use native.Mathlib.Omega.{arith}
 use lib.ListN.{length}
-use Rattle.link.specs.Stream.{Bytes, Stream, owed, num, some, Flit, Item, part, control, idle, replay}
+use Rattle.link.proofs.Stream.{Bytes, Stream, owed, num, some, Flit, Item, part, control, idle, replay}
 
 pub record Chain : Type 0 where
   pub pos : ℕ

@@ -5,9 +5,9 @@ use mathlib.Core.Bool.{Bool, true, false, true≢false}
 use mathlib.Core.List.{List, [], _∷_, _++_}
 use Prim.Native.Nat.{ℕ, suc, _≤_}
 use native.Mathlib.Omega.{arith}
-use Rattle.link.specs.Stream.{Bytes, Stream, owed, some, Flit, Item, part, control, idle, replay}
-use Rattle.link.specs.End.{Mode, run, wait, Sender, End}
-use Rattle.link.specs.Step.{accept, item, carried, is-waiting, Send, replays, alone, burst, idles, Discard, more, enough, Acked, keeps, passes, nacked, Receive, holds, delivers, repeats, idling, damaged, replayed, ahead-run, ahead-wait, discards, falls}
+use Rattle.link.proofs.Stream.{Bytes, Stream, owed, some, Flit, Item, part, control, idle, replay}
+use Rattle.link.proofs.End.{Mode, run, wait, Sender, End}
+use Rattle.link.proofs.Step.{accept, item, carried, is-waiting, Send, replays, alone, burst, idles, Discard, more, enough, Acked, keeps, passes, nacked, Receive, holds, delivers, repeats, idling, damaged, replayed, ahead-run, ahead-wait, discards, falls}
 use Rattle.link.proofs.Num.{num-of-le}
 use Rattle.link.proofs.Chain.{Chain, after, final, final-append}
 use Rattle.link.proofs.Inv.{Inv}
@@ -140,7 +140,7 @@ pub record Follows (p : End) (c : Chain) : Type 0 where
 no-wait : {m : Mode} → m ≡ run → m ≡ wait → ⊥
 no-wait h k = let z : _≡_ {A = ℕ} 0 1 = cc in omega arith
 
-follows : (g : Stream) (p p′ : End) (c : Chain) (x : Item) → x .ok ≡ true → Goes c (x .flit) → Follows p c → ¬ Rattle.link.specs.Step.Wrong g p x
+follows : (g : Stream) (p p′ : End) (c : Chain) (x : Item) → x .ok ≡ true → Goes c (x .flit) → Follows p c → ¬ Rattle.link.proofs.Step.Wrong g p x
     → Receive g p x p′ → Follows p′ (after c x)
 follows g p p′ c x o s h w (holds m q) = record { mode = h .mode; next = h .next; here = h .here }
 follows g p p′ c x o s h w (delivers m q e a) = record { mode = h .mode; next = ap suc (h .next); here = ap suc (h .here) }

@@ -7,8 +7,8 @@ use mathlib.Core.Bool.{false}
 use mathlib.Core.List.{List}
 use Prim.Native.Nat.{ℕ, suc, _+_, _≤_, _<_}
 use lib.ListN.{length}
-use Rattle.link.specs.Stream.{Stream, owed, num, first, Item}
-use Rattle.link.specs.End.{Mode, run, wait, down, Sender, Receiver, End}
+use Rattle.link.proofs.Stream.{Stream, owed, num, first, Item}
+use Rattle.link.proofs.End.{Mode, run, wait, down, Sender, Receiver, End}
 use Rattle.link.proofs.Chain.{Chain, final, Rest, Wire}
 
 -- of one end alone: f is its stream

@@ -1,3 +1,6 @@
+pub mod Stream
+pub mod End
+pub mod Step
 pub mod Num
 pub mod Chain
 pub mod Inv

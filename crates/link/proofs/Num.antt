@@ -3,7 +3,7 @@ use mathlib.Core.Path.{_≡_}
 use Prim.Native.Nat.{ℕ, zero, suc, _≤_, _<_}
 use native.Mathlib.Omega.{arith}
 use native.Mathlib.Decide.{decLe}
-use Rattle.link.specs.Stream.{Stream, num}
+use Rattle.link.proofs.Stream.{Stream, num}
 
 pub num-le : (f : Stream) (i j : ℕ) → i ≤ j → num f i ≤ num f j
 num-le f i zero h = let e : i ≡ 0 = omega arith in rw e (omega arith)

@@ -7,10 +7,10 @@ use mathlib.Core.List.{List, [], _∷_, _++_}
 use Prim.Native.Nat.{ℕ, suc, _+_, _≤_}
 use native.Mathlib.Omega.{arith}
 use lib.ListN.{length}
-use Rattle.link.specs.Stream.{Bytes, Stream, owed, num, Item, part, control, idle, replay}
-use Rattle.link.specs.End.{run, wait, Sender, End}
-use Rattle.link.specs.Step
-use Rattle.link.specs.Step.{item, Discard, more, enough, Acked, keeps, passes, nacked, Wrong, no-part, no-control, no-idle, no-replay, other-run, past-control, past-idle, past-replay, before-replay, over, Receive, holds, delivers, repeats, idling, damaged, replayed, ahead-run, ahead-wait, discards, falls}
+use Rattle.link.proofs.Stream.{Bytes, Stream, owed, num, Item, part, control, idle, replay}
+use Rattle.link.proofs.End.{run, wait, Sender, End}
+use Rattle.link.proofs.Step
+use Rattle.link.proofs.Step.{item, Discard, more, enough, Acked, keeps, passes, nacked, Wrong, no-part, no-control, no-idle, no-replay, other-run, past-control, past-idle, past-replay, before-replay, over, Receive, holds, delivers, repeats, idling, damaged, replayed, ahead-run, ahead-wait, discards, falls}
 use Rattle.link.proofs.Num.{num-le}
 use Rattle.link.proofs.Chain.{Chain, after, final, Fits, Grows, grows, grow-told, step-hi, step-lo}
 use Rattle.link.proofs.Inv.{Local, Runs, At, Head, Inv}

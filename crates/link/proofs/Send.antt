@@ -6,9 +6,9 @@ use Prim.Native.Nat.{ℕ, suc, _+_, _-_, _≤_, _<_, max}
 use native.Mathlib.Omega.{arith}
 use native.Mathlib.Decide.{decLt}
 use lib.ListN.{length, length-append}
-use Rattle.link.specs.Stream.{Bytes, Stream, owed, num, some, Item, part, control, idle}
-use Rattle.link.specs.End.{Mode, run, wait, Sender, Receiver, End}
-use Rattle.link.specs.Step.{item, accept, Room, tell, told, moved, carried, Send, replays, alone, burst, idles}
+use Rattle.link.proofs.Stream.{Bytes, Stream, owed, num, some, Item, part, control, idle}
+use Rattle.link.proofs.End.{Mode, run, wait, Sender, Receiver, End}
+use Rattle.link.proofs.Step.{item, accept, Room, tell, told, moved, carried, Send, replays, alone, burst, idles}
 use Rattle.link.proofs.Num.{num-le}
 use Rattle.link.proofs.Chain.{Chain, after, final, Wire, grows, final-append, wire-append}
 use Rattle.link.proofs.Inv.{Local, At, Tail, Head, Inv}

@@ -6,9 +6,9 @@ use mathlib.Core.List.{List, [], _∷_}
 use Prim.Native.Nat.{ℕ, suc, _≤_}
 use native.Mathlib.Omega.{arith}
 use lib.ListN.{length}
-use Rattle.link.specs.Stream.{Stream, owed, some, Flit, Item, part, control, idle, replay}
-use Rattle.link.specs.End.{Mode, run, wait, down, Receiver, End}
-use Rattle.link.specs.Step.{Send, replays, alone, burst, idles, Receive, holds, delivers, repeats, idling, damaged, replayed, ahead-run, ahead-wait, discards, falls}
+use Rattle.link.proofs.Stream.{Stream, owed, some, Flit, Item, part, control, idle, replay}
+use Rattle.link.proofs.End.{Mode, run, wait, down, Receiver, End}
+use Rattle.link.proofs.Step.{Send, replays, alone, burst, idles, Receive, holds, delivers, repeats, idling, damaged, replayed, ahead-run, ahead-wait, discards, falls}
 use Rattle.link.proofs.Chain.{Chain, Wire}
 use Rattle.link.proofs.Inv.{At, Runs}
 use Rattle.link.proofs.Receive

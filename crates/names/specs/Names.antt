@@ -1,7 +1,7 @@
--- The words of a script: the ends, the fields of the state and the counts of the ticket. Assumes nothing.
+-- The words of a script: the ends, the fields of the state with their largest values, and the counts of the ticket. Assumes nothing.
 use mathlib.Core.Bool.{cond}
-use mathlib.Core.List.{List}
-use Prim.Native.Nat.{ℕ}
+use mathlib.Core.List.{List, [], _∷_}
+use Prim.Native.Nat.{ℕ, suc}
 use Rattle.text.specs.Text.{ascii}
 use Rattle.tokens.specs.Tokens.{same}
 use Rattle.names.specs.declared.Which.the-variants as which
@@ -15,6 +15,11 @@ use Rattle.names.specs.declared.FieldNamed.{FieldNamed}
 use Rattle.names.specs.declared.FieldNamed.the-variants as a-field
 use Rattle.names.specs.declared.KeyNamed.{KeyNamed}
 use Rattle.names.specs.declared.KeyNamed.the-variants as a-key
+
+-- the place of a token in a row of words, or their number
+unfoldable pub place : List ℕ → List (List ℕ) → ℕ
+place t [] = 0
+place t (w ∷ ws) = cond (same t w) 0 (suc (place t ws))
 
 -- E: the two ends
 unfoldable pub end-of : List ℕ → EndNamed

@@ -25,7 +25,8 @@ use Rattle.answers.specs.declared.Answer.{Answer}
 use Rattle.answers.specs.declared.Answer.the-variants as answer
 use Rattle.answers.proofs.Found.{Fits, found}
 use Rattle.acknowledge.specs.Acknowledge.{sent-anew, acknowledged}
-use Rattle.effects.specs.Effects.{waiting, discarded, closed, delivered, informed, idled, replay-taken, ahead-in, end-after}
+use Rattle.taken.specs.Taken.{idled, closed, delivered, informed, replay-taken}
+use Rattle.effects.specs.Effects.{waiting, discarded, ahead-in, end-after}
 use Rattle.receive.specs.Receive.{verdict, answer-by, answer-to, receive}
 use Rattle.effects.proofs.Covering.{Fitting}
 use Rattle.receive.proofs.Freed.{acknowledged-sends, acknowledged-apart, anew-sends}

@@ -1,4 +1,5 @@
--- Receive takes one arriving flit, step by step of 01, "Receive". Assumes nothing.
+-- Receive takes one arriving flit (01, "Receive"): its refusals, hold after each answer, and the whole of it. The steps are those of crates
+-- arrivals, answers and effects. Assumes nothing.
 use mathlib.Core.Bool.{not, _&&_, cond}
 use mathlib.Core.List.{List}
 use Prim.Native.Nat.{ℕ}

@@ -19,8 +19,8 @@ use Rattle.names.specs.Names.{end-of, field-of, most, key-of}
 use Rattle.script.specs.declared.Command.{Command}
 use Rattle.script.specs.declared.Command.the-variants as command
 use Rattle.script.specs.Script.{start, accept, send, receive, poke, fill, lend, count, command-of}
-use Rattle.script.specs.Script.{for-end, for-named, line-from, line-of, carried, bytes-of, bytes-in, within}
-use Rattle.script.proofs.Lines.{for-end-command}
+use Rattle.script.specs.Script.{for-named, line-from, line-of, carried, bytes-of, bytes-in, within}
+use Rattle.script.proofs.Lines.{all-taken}
 
 -- ---- what a command is
 
@@ -53,7 +53,7 @@ start-fits len hex = or-bad hex (is-number 70000 len) (command.Start (value len)
 
 accept-fits : (hex : List ℕ) → Fits (accept hex) hex
 unfolding accept within carried bytes-in
-accept-fits hex = or-bad hex (is-bytes hex) (command.Accept (length (pairs hex))) (λ h. (few hex h, refl))
+accept-fits hex = or-bad hex (is-bytes hex) (command.Accept (length (pairs hex))) (λ h. (few hex h, ap length (all-taken hex)))
 
 send-fits : (len errors info hex : List ℕ) → Fits (send len errors info) hex
 unfolding send within carried bytes-in
@@ -66,7 +66,7 @@ send-fits len errors info hex =
 
 receive-fits : (hex : List ℕ) → Fits (receive hex) hex
 unfolding receive within carried bytes-in
-receive-fits hex = or-bad hex (is-bytes hex) (command.Receive (length (pairs hex))) (λ h. (few hex h, refl))
+receive-fits hex = or-bad hex (is-bytes hex) (command.Receive (length (pairs hex))) (λ h. (few hex h, ap length (all-taken hex)))
 
 poke-fits : (n : FieldNamed) (v hex : List ℕ) → Fits (poke n v) hex
 unfolding poke within carried bytes-in
@@ -79,7 +79,7 @@ unfolding fill within carried bytes-in
 fill-fits offset hex =
     let a = is-decimal offset in
     let b = is-bytes hex in
-    or-bad hex (a && b) (command.Fill (offset-value offset) (length (pairs hex))) (λ h. (few hex (and-r a b h), refl))
+    or-bad hex (a && b) (command.Fill (offset-value offset) (length (pairs hex))) (λ h. (few hex (and-r a b h), ap length (all-taken hex)))
 
 lend-fits : (store hold hex : List ℕ) → Fits (lend store hold) hex
 unfolding lend within carried bytes-in
@@ -114,12 +114,12 @@ command-fits op (a ∷ b ∷ c ∷ []) = or-bad c (same op (ascii "send")) (send
 command-fits op (a ∷ b ∷ c ∷ d ∷ ts) = bad-fits (last (a ∷ b ∷ c ∷ d ∷ ts))
 
 for-fits : (n : EndNamed) (c : Command) (hex : List ℕ) → Fits c hex → Fits (for-named n c .command) hex
-unfolding for-named for-end
-for-fits (an-end.Known w) c hex h = subst (λ (d : Command). Fits d hex) (sym (for-end-command w c)) h
+unfolding for-named
+for-fits (an-end.Known w) c hex h = h
 for-fits an-end.Unknown c hex h = bad-fits hex
 
 from-fits : (ts : List (List ℕ)) → Fits (line-from ts .command) (last ts)
-unfolding line-from for-end command-of last
+unfolding line-from command-of last
 from-fits [] = bad-fits []
 from-fits (op ∷ []) = bad-fits op
 from-fits (op ∷ e ∷ []) = for-fits (end-of e) (command-of op []) e (ticket-fits (same op (ascii "ticket")) e)

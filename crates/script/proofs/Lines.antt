@@ -1,12 +1,14 @@
 -- What a command carries, and the line that it makes. Assumes nothing.
-use mathlib.Core.Bool.{Bool, true, false, _&&_, cond}
+use mathlib.Core.Bool.{Bool, true, false, _&&_, _||_, cond}
 use mathlib.Core.List.{List, [], _∷_}
 use mathlib.Core.Path.{_≡_, refl, ap, ap₂, sym, _∙_}
 use Prim.Native.Nat.{ℕ}
-use lib.ListN.{length}
+use native.Mathlib.Omega.{arith}
+use lib.ListN.{length, take}
+use lib.Seq.{take-all}
 use Rattle.text.specs.Text.{ascii}
 use Rattle.tokens.specs.Tokens.{tokens, last, same, is-decimal, is-number, value, offset-value, is-bytes, pairs, over}
-use Rattle.tokens.proofs.Cuts.{tokens-some, last-tokens}
+use Rattle.tokens.proofs.Cuts.{first-at, tokens-first, tokens-some, last-one, last-tokens}
 use Rattle.tokens.proofs.Figures.{over-none}
 use Rattle.names.specs.declared.Which.{Which}
 use Rattle.names.specs.declared.Which.the-variants as which
@@ -21,71 +23,96 @@ use Rattle.names.specs.Names.{end-of, field-of, most, key-of}
 use Rattle.script.specs.declared.Command.{Command}
 use Rattle.script.specs.declared.Command.the-variants as command
 use Rattle.script.specs.Script.{start, accept, send, receive, poke, fill, lend, count, command-of}
-use Rattle.script.specs.Script.{for-end, for-named, line-from, carried}
+use Rattle.script.specs.Script.{for-end, for-named, line-from, bytes-in, carried}
 
 -- a command that carries nothing, or is bad
 none : (b : Bool) (c : Command) (hex : List ℕ) → carried c hex ≡ [] → carried (cond b c command.Bad) hex ≡ []
-unfolding carried
+unfolding carried bytes-in
 none true c hex h = h
 none false c hex h = refl
 
 -- a command that carries its HEX, or is bad
 some : (b : Bool) (c : Command) (hex : List ℕ) → carried c hex ≡ pairs hex → carried (cond b c command.Bad) hex ≡ cond b (pairs hex) []
-unfolding carried
+unfolding carried bytes-in
 some true c hex h = h
 some false c hex h = refl
 
+pub all-taken : (hex : List ℕ) → take (length (pairs hex)) (pairs hex) ≡ pairs hex
+all-taken hex = take-all (length (pairs hex)) (pairs hex) (omega arith)
+
 pub start-none : (len hex : List ℕ) → carried (start len) hex ≡ []
-unfolding start carried
+unfolding start carried bytes-in
 start-none len hex = none (is-number 70000 len) (command.Start (value len)) hex refl
 
-pub accept-some : (hex : List ℕ) → carried (accept hex) hex ≡ cond (is-bytes hex) (pairs hex) []
-unfolding accept carried
-accept-some hex = some (is-bytes hex) (command.Accept (length (pairs hex))) hex refl
-
 pub send-none : (len errors info hex : List ℕ) → carried (send len errors info) hex ≡ []
-unfolding send carried
+unfolding send carried bytes-in
 send-none len errors info hex =
     none (is-number 2000 len && is-number 255 errors && is-number 18446744073709551615 info)
     (command.Send (value len) (value errors) (value info)) hex refl
 
-pub receive-some : (hex : List ℕ) → carried (receive hex) hex ≡ cond (is-bytes hex) (pairs hex) []
-unfolding receive carried
-receive-some hex = some (is-bytes hex) (command.Receive (length (pairs hex))) hex refl
+pub bytes-some : (accepting : Bool) (hex : List ℕ)
+    → carried (cond accepting (accept hex) (receive hex)) hex ≡ cond (is-bytes hex) (pairs hex) []
+unfolding accept receive carried bytes-in
+bytes-some true hex = some (is-bytes hex) (command.Accept (length (pairs hex))) hex (all-taken hex)
+bytes-some false hex = some (is-bytes hex) (command.Receive (length (pairs hex))) hex (all-taken hex)
 
 pub poke-none : (f : FieldNamed) (v hex : List ℕ) → carried (poke f v) hex ≡ []
-unfolding poke carried
+unfolding poke carried bytes-in
 poke-none (a-field.Known f) v hex = none (is-number (most f) v) (command.Poke f (value v)) hex refl
 poke-none a-field.Unknown v hex = refl
 
 pub fill-none : (offset hex : List ℕ) → is-decimal offset ≡ false → carried (fill offset hex) hex ≡ []
-unfolding fill carried
+unfolding fill carried bytes-in
 fill-none offset hex h = simp h
 
 pub fill-some : (offset hex : List ℕ) → is-decimal offset ≡ true
     → carried (fill offset hex) hex ≡ cond (is-bytes hex) (pairs hex) []
-unfolding fill carried
-fill-some offset hex h = rw h (some (is-bytes hex) (command.Fill (offset-value offset) (length (pairs hex))) hex refl)
+unfolding fill carried bytes-in
+fill-some offset hex h = rw h (some (is-bytes hex) (command.Fill (offset-value offset) (length (pairs hex))) hex (all-taken hex))
 
 pub lend-none : (store hold hex : List ℕ) → carried (lend store hold) hex ≡ []
-unfolding lend carried
+unfolding lend carried bytes-in
 lend-none store hold hex =
     none (is-number 70000 store && is-number 2000 hold) (command.Lend (value store) (value hold)) hex refl
 
 pub count-none : (k : KeyNamed) (v hex : List ℕ) → carried (count k v) hex ≡ []
-unfolding count carried
+unfolding count carried bytes-in
 count-none (a-key.Known k) v hex = none (is-number 4294967295 v) (command.Count k (value v)) hex refl
 count-none a-key.Unknown v hex = refl
 
 pub bad-none : (hex : List ℕ) → carried command.Bad hex ≡ []
-unfolding carried
+unfolding carried bytes-in
 bad-none hex = refl
 
 pub ticket-none : (hex : List ℕ) → carried command.Ticket hex ≡ []
-unfolding carried
+unfolding carried bytes-in
 ticket-none hex = refl
 
 -- ---- a command by its arguments
+
+pub start-told : (len : List ℕ) (n : ℕ) → is-number 70000 len ≡ true → n ≡ cond (is-number 70000 len) (value len) 0
+    → command.Start n ≡ start len
+unfolding start
+start-told len n h e = simp (e, h)
+
+pub start-bad : (len : List ℕ) → is-number 70000 len ≡ false → command.Bad ≡ start len
+unfolding start
+start-bad len h = simp h
+
+pub bytes-bad : (accepting : Bool) (hex : List ℕ) → is-bytes hex ≡ false → command.Bad ≡ cond accepting (accept hex) (receive hex)
+unfolding accept receive
+bytes-bad true hex h = simp h
+bytes-bad false hex h = simp h
+
+pub bytes-accept : (accepting : Bool) (hex : List ℕ) (n : ℕ) → accepting ≡ true → is-bytes hex ≡ true
+    → n ≡ cond (is-bytes hex) (length (pairs hex)) 0 → command.Accept n ≡ cond accepting (accept hex) (receive hex)
+unfolding accept
+bytes-accept accepting hex n b h e = simp (b, e, h)
+
+pub bytes-receive : (accepting : Bool) (hex : List ℕ) (n : ℕ) → accepting ≡ false → is-bytes hex ≡ true
+    → n ≡ cond (is-bytes hex) (length (pairs hex)) 0 → command.Receive n ≡ cond accepting (accept hex) (receive hex)
+unfolding receive
+bytes-receive accepting hex n b h e = simp (b, e, h)
 
 pub poke-told : (n : FieldNamed) (f : Field) (t : List ℕ) (v : ℕ) → n ≡ a-field.Known f → is-number (most f) t ≡ true → v ≡ value t
     → command.Poke f v ≡ poke n t
@@ -168,19 +195,19 @@ module _ (op a : List ℕ) where
   unfolding command-of
   one-start h = simp h
 
-  pub one-accept : same op (ascii "start") ≡ false → same op (ascii "accept") ≡ true → command-of op (a ∷ []) ≡ accept a
+  pub one-bytes : (p q : Bool) → p ≡ same op (ascii "accept") → q ≡ same op (ascii "receive") → same op (ascii "start") ≡ false
+      → (p || q) ≡ true → command-of op (a ∷ []) ≡ cond p (accept a) (receive a)
   unfolding command-of
-  one-accept h k = simp (h, k)
+  one-bytes true q e f h k = simp (h, sym e)
+  one-bytes false true e f h k = simp (h, sym e, sym f)
+  one-bytes false false e f h k = let z : false ≡ true = k in cc
 
-  pub one-receive : same op (ascii "start") ≡ false → same op (ascii "accept") ≡ false → same op (ascii "receive") ≡ true
-      → command-of op (a ∷ []) ≡ receive a
+  pub one-bad : (p q : Bool) → p ≡ same op (ascii "accept") → q ≡ same op (ascii "receive") → same op (ascii "start") ≡ false
+      → (p || q) ≡ false → command-of op (a ∷ []) ≡ command.Bad
   unfolding command-of
-  one-receive h k l = simp (h, k, l)
-
-  pub one-bad : same op (ascii "start") ≡ false → same op (ascii "accept") ≡ false → same op (ascii "receive") ≡ false
-      → command-of op (a ∷ []) ≡ command.Bad
-  unfolding command-of
-  one-bad h k l = simp (h, k, l)
+  one-bad false false e f h k = simp (h, sym e, sym f)
+  one-bad false true e f h k = let z : true ≡ false = k in cc
+  one-bad true q e f h k = let z : true ≡ false = k in cc
 
 module _ (op a b : List ℕ) where
   pub two-poke : same op (ascii "poke") ≡ true → command-of op (a ∷ b ∷ []) ≡ poke (field-of a) b
@@ -236,6 +263,24 @@ pub ticket-or-bad : (op hex : List ℕ) → carried (command-of op []) hex ≡ [
 unfolding command-of
 ticket-or-bad op hex = none (same op (ascii "ticket")) command.Ticket hex (ticket-none hex)
 
+-- ---- what is written, by the tokens
+
+-- for the command that tokens make, with the last of them as its HEX
+module _ (made : List (List ℕ) → Command) (buffer : List ℕ) (ts : List (List ℕ)) where
+  abbrev written : List (List ℕ) → List ℕ → List ℕ
+  written us hex = over (carried (made us) hex) buffer
+
+  -- the first token is cut off, and more follow it
+  pub written-more : {after : List ℕ} (t s : List ℕ) → ts ≡ t ∷ tokens s → after ≡ written (t ∷ tokens s) (last (tokens s))
+      → after ≡ written ts (last ts)
+  written-more t s e h =
+      h ∙ ap (written (t ∷ tokens s)) (sym (last-tokens t s)) ∙ ap (λ (us : List (List ℕ)). written us (last us)) (sym e)
+
+  -- it is the only one
+  pub written-one : {after : List ℕ} (t : List ℕ) → ts ≡ t ∷ [] → after ≡ written (t ∷ []) t → after ≡ written ts (last ts)
+  written-one t e h =
+      h ∙ ap (written (t ∷ [])) (sym (last-one t)) ∙ ap (λ (us : List (List ℕ)). written us (last us)) (sym e)
+
 -- ---- a line by its end
 
 pub line-known : (op e : List ℕ) (ts : List (List ℕ)) (w : Which) → end-of e ≡ an-end.Known w
@@ -247,42 +292,28 @@ line-unknown : (op e : List ℕ) (ts : List (List ℕ)) → end-of e ≡ an-end.
 unfolding line-from for-named
 line-unknown op e ts h = simp h
 
--- the first token names no end, whether it is the last or not
-pub line-nowhere : (op s e : List ℕ) (ts : List (List ℕ)) (b : Bool) → tokens s ≡ cond b (e ∷ ts) (s ∷ []) → (b ≡ false → e ≡ s)
-    → end-of e ≡ an-end.Unknown → line-from (op ∷ tokens s) ≡ for-end which.A command.Bad
-line-nowhere op s e ts true h k u = rw h (line-unknown op e ts u)
-line-nowhere op s e ts false h k u = rw h (line-unknown op s [] (ap end-of (sym (k refl)) ∙ u))
+-- the first token names no end, whether more follow or not
+pub line-nowhere : (op s : List ℕ) (n : ℕ) → first-at s n → end-of (take n s) ≡ an-end.Unknown
+    → line-from (op ∷ tokens s) ≡ for-end which.A command.Bad
+line-nowhere op s n e u =
+    ap (λ (ts : List (List ℕ)). line-from (op ∷ ts)) (tokens-first s n e) ∙ line-unknown op (take n s) _ u
 
 pub line-bare : (op : List ℕ) → line-from (op ∷ []) ≡ for-end which.A command.Bad
 unfolding line-from
 line-bare op = refl
 
--- the line has the command
-pub for-end-command : (w : Which) (c : Command) → for-end w c .command ≡ c
-unfolding for-end
-for-end-command w command.Bad = refl
-for-end-command w (command.Start len) = refl
-for-end-command w (command.Accept n) = refl
-for-end-command w (command.Send len errors info) = refl
-for-end-command w (command.Receive n) = refl
-for-end-command w (command.Poke f v) = refl
-for-end-command w (command.Fill offset n) = refl
-for-end-command w (command.Lend store hold) = refl
-for-end-command w command.Ticket = refl
-for-end-command w (command.Count k v) = refl
-
 -- nothing is written for a bad line
 pub bad-over : (hex buffer : List ℕ) → over (carried (for-end which.A command.Bad .command) hex) buffer ≡ buffer
-unfolding for-end carried over
+unfolding carried bytes-in over
 bad-over hex buffer = refl
 
 -- a line carries what its command does
 pub line-carried : (op s e d : List ℕ) (w : Which) → tokens s ≡ e ∷ tokens d → end-of e ≡ an-end.Known w
     → carried (line-from (op ∷ tokens s) .command) (last (tokens s)) ≡ carried (command-of op (tokens d)) (last (tokens d))
 line-carried op s e d w h k =
-    rw (h, line-known op e (tokens d) w k, for-end-command w (command-of op (tokens d)), last-tokens e d)
+    rw (h, line-known op e (tokens d) w k, last-tokens e d)
 
 pub bare-carried : (op s hex buffer : List ℕ) (w : Which) → tokens s ≡ s ∷ [] → end-of s ≡ an-end.Known w
     → over (carried (line-from (op ∷ tokens s) .command) hex) buffer ≡ buffer
 bare-carried op s hex buffer w h k =
-    rw (h, line-known op s [] w k, for-end-command w (command-of op []), ticket-or-bad op hex) (over-none buffer)
+    rw (h, line-known op s [] w k, ticket-or-bad op hex) (over-none buffer)

@@ -2,7 +2,7 @@
 use mathlib.Core.Bool.{_&&_, cond}
 use mathlib.Core.List.{List, [], _∷_}
 use Prim.Native.Nat.{ℕ, _≤_}
-use lib.ListN.{length}
+use lib.ListN.{length, take}
 use Rattle.text.specs.Text.{ascii}
 use Rattle.tokens.specs.Tokens.{tokens, last, same, value, is-decimal, is-number, offset-value, is-bytes, pairs}
 use Rattle.names.specs.Names.{end-of, field-of, most, key-of}
@@ -78,18 +78,8 @@ command-of op (a ∷ b ∷ c ∷ d ∷ ts) = command.Bad
 
 -- ---- the line
 
--- a bad line is for end a
-unfoldable pub for-end : Which → Command → Line
-for-end w command.Bad = record { which = which.A; command = command.Bad }
-for-end w (command.Start len) = record { which = w; command = command.Start len }
-for-end w (command.Accept n) = record { which = w; command = command.Accept n }
-for-end w (command.Send len errors info) = record { which = w; command = command.Send len errors info }
-for-end w (command.Receive n) = record { which = w; command = command.Receive n }
-for-end w (command.Poke f v) = record { which = w; command = command.Poke f v }
-for-end w (command.Fill offset n) = record { which = w; command = command.Fill offset n }
-for-end w (command.Lend store hold) = record { which = w; command = command.Lend store hold }
-for-end w command.Ticket = record { which = w; command = command.Ticket }
-for-end w (command.Count k v) = record { which = w; command = command.Count k v }
+abbrev pub for-end : Which → Command → Line
+for-end w c = record { which = w; command = c }
 
 unfoldable pub for-named : EndNamed → Command → Line
 for-named (an-end.Known w) c = for-end w c
@@ -106,22 +96,6 @@ line-of line = line-from (tokens line)
 
 -- ---- the bytes
 
--- HEX is the last argument of the commands that have one
-unfoldable pub carried : Command → List ℕ → List ℕ
-carried command.Bad hex = []
-carried (command.Start len) hex = []
-carried (command.Accept n) hex = pairs hex
-carried (command.Send len errors info) hex = []
-carried (command.Receive n) hex = pairs hex
-carried (command.Poke f v) hex = []
-carried (command.Fill offset n) hex = pairs hex
-carried (command.Lend store hold) hex = []
-carried command.Ticket hex = []
-carried (command.Count k v) hex = []
-
-unfoldable pub bytes-of : List ℕ → List ℕ
-bytes-of line = carried (line-of line .command) (last (tokens line))
-
 -- the number of bytes of a command's HEX
 unfoldable pub bytes-in : Command → ℕ
 bytes-in command.Bad = 0
@@ -134,6 +108,13 @@ bytes-in (command.Fill offset n) = n
 bytes-in (command.Lend store hold) = 0
 bytes-in command.Ticket = 0
 bytes-in (command.Count key n) = 0
+
+-- HEX is the last argument of the commands that have one
+unfoldable pub carried : Command → List ℕ → List ℕ
+carried c hex = take (bytes-in c) (pairs hex)
+
+unfoldable pub bytes-of : List ℕ → List ℕ
+bytes-of line = carried (line-of line .command) (last (tokens line))
 
 -- ---- the values
 

@@ -3,11 +3,12 @@ use crate::Command;
 use names::FieldNamed;
 use names::KeyNamed;
 use tokens::digits;
+ghost use mathlib.Core.Bool.{cond};
 ghost use mathlib.Core.List.{[], _∷_};
 ghost use mathlib.Core.Path.{_≡_};
 ghost use Prim.Native.Nat.{_≤_};
 ghost use lib.ListN.{length};
-ghost use Rattle.tokens.specs.Tokens.{tokens as tokens-of, last, over};
+ghost use Rattle.tokens.specs.Tokens.{tokens as tokens-of, last, is-bytes, pairs, over};
 ghost use Rattle.names.specs.Names.{field-of, key-of};
 ghost use Rattle.script.specs.Script.{command-of, carried};
 ghost use Rattle.script.specs.Script.{start as start-of, accept as accept-of, send as send-of, receive as receive-of};
@@ -71,11 +72,9 @@ fn one_argument(op: &[u8], a: &[u8], bytes: &mut [u8]) -> Command
     if tokens::is(op, b"start") {
         return start(a);
     }
-    if tokens::is(op, b"accept") {
-        return accept(a, bytes);
-    }
-    if tokens::is(op, b"receive") {
-        return receive(a, bytes);
+    let accepting = tokens::is(op, b"accept");
+    if accepting | tokens::is(op, b"receive") {
+        return with_bytes(accepting, a, bytes);
     }
     Command::Bad
 }
@@ -121,16 +120,20 @@ fn start(length: &[u8]) -> Command
     }
 }
 
-fn accept(hex: &[u8], bytes: &mut [u8]) -> Command
+// accept and receive take their HEX alike.
+fn with_bytes(accepting: bool, hex: &[u8], bytes: &mut [u8]) -> Command
     requires { ⌜ 2000 ≤ length (now bytes) ⌝ }
-    ensures { λ r. ⌜ r ≡ accept-of (now (hex .entry)) ⌝ }
-    ensures { λ r. ⌜ now (bytes .exit) ≡ over (carried (accept-of (now (hex .entry))) (now (hex .entry))) (now (bytes .entry)) ⌝ }
+    ensures { λ r. ⌜ r ≡ cond accepting (accept-of (now (hex .entry))) (receive-of (now (hex .entry))) ⌝ }
+    ensures { λ r. ⌜ now (bytes .exit) ≡ over (cond (is-bytes (now (hex .entry))) (pairs (now (hex .entry))) []) (now (bytes .entry)) ⌝ }
 {
     let h = digits::take_hex(hex, bytes);
-    if h.ok {
+    if !h.ok {
+        return Command::Bad;
+    }
+    if accepting {
         Command::Accept(h.count)
     } else {
-        Command::Bad
+        Command::Receive(h.count)
     }
 }
 
@@ -142,19 +145,6 @@ fn send(length: &[u8], errors: &[u8], info: &[u8]) -> Command
     let i = digits::number(info, u64::MAX);
     if l.ok & e.ok & i.ok {
         Command::Send(l.value as usize, e.value as u8, i.value)
-    } else {
-        Command::Bad
-    }
-}
-
-fn receive(hex: &[u8], bytes: &mut [u8]) -> Command
-    requires { ⌜ 2000 ≤ length (now bytes) ⌝ }
-    ensures { λ r. ⌜ r ≡ receive-of (now (hex .entry)) ⌝ }
-    ensures { λ r. ⌜ now (bytes .exit) ≡ over (carried (receive-of (now (hex .entry))) (now (hex .entry))) (now (bytes .entry)) ⌝ }
-{
-    let h = digits::take_hex(hex, bytes);
-    if h.ok {
-        Command::Receive(h.count)
     } else {
         Command::Bad
     }

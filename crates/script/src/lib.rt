@@ -27,7 +27,6 @@ pub enum Command {
     Count(Key, u32),
 }
 
-// A bad line is for end a.
 pub struct Line {
     pub which: Which,
     pub command: Command,
@@ -71,50 +70,11 @@ fn after_word(op: &[u8], rest: &[u8], bytes: &mut [u8]) -> Line
     }
 }
 
-// A bad line is for end a.
 fn for_end(w: Which, c: Command) -> Line
     ensures { λ r. ⌜ r ≡ for-end w c ⌝ }
 {
-    match c {
-        Command::Bad => Line {
-            which: Which::A,
-            command: c,
-        },
-        Command::Start(_) => Line {
-            which: w,
-            command: c,
-        },
-        Command::Accept(_) => Line {
-            which: w,
-            command: c,
-        },
-        Command::Send(_, _, _) => Line {
-            which: w,
-            command: c,
-        },
-        Command::Receive(_) => Line {
-            which: w,
-            command: c,
-        },
-        Command::Poke(_, _) => Line {
-            which: w,
-            command: c,
-        },
-        Command::Fill(_, _) => Line {
-            which: w,
-            command: c,
-        },
-        Command::Lend(_, _) => Line {
-            which: w,
-            command: c,
-        },
-        Command::Ticket => Line {
-            which: w,
-            command: c,
-        },
-        Command::Count(_, _) => Line {
-            which: w,
-            command: c,
-        },
+    Line {
+        which: w,
+        command: c,
     }
 }

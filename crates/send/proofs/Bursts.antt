@@ -12,9 +12,11 @@ use Rattle.compose.specs.Flits.{idle-flit}
 use Rattle.ends.specs.Refusals.{cursor-at, store-is, sound, previous-run}
 use Rattle.ends.specs.declared.state.End.{End}
 use Rattle.units.specs.Units.{unit-sent}
-use Rattle.burst.specs.Burst.{carried, fallen, replay-sent, burst, burst-flits}
+use Rattle.moves.specs.Moves.{carried, fallen}
+use Rattle.replays.specs.Replays.{replay-sent}
+use Rattle.burst.specs.Burst.{burst, burst-flits}
 use Rattle.units.proofs.Lengths.{length-unit}
-use Rattle.burst.proofs.Lengths.{length-idle, length-replays}
+use Rattle.replays.proofs.Lengths.{length-idle, length-replays}
 use Rattle.burst.proofs.Cases.{burst-replays, burst-idle, burst-data, burst-control, flits-replays, flits-idle, flits-data, flits-control}
 use Rattle.burst.proofs.Ready.{Ready, ready}
 

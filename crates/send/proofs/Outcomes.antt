@@ -9,7 +9,8 @@ use Rattle.ends.specs.declared.state.End.{End}
 use Rattle.ends.specs.declared.state.Refusal.{Refusal}
 use Rattle.ends.specs.declared.state.Verdict.{Verdict}
 use Rattle.ends.specs.declared.state.Verdict.the-variants.{Refused, Admitted}
-use Rattle.burst.specs.Burst.{burst, burst-flits, moved}
+use Rattle.moves.specs.Moves.{moved}
+use Rattle.burst.specs.Burst.{burst, burst-flits}
 use Rattle.send.specs.Send.{verdict, sent-by, output-by, send, send-output}
 use Rattle.send.specs.declared.Answer.the-variants as answer
 use Rattle.send.specs.declared.Sent.{Sent}

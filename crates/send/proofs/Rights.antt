@@ -15,7 +15,7 @@ use Rattle.flits.proofs.Laws.{length-bytes}
 use Rattle.ends.specs.Refusals.{cursor-at}
 use Rattle.ends.specs.declared.state.End.{End}
 use Rattle.units.specs.Units.{stored-flits, unit-sent}
-use Rattle.burst.specs.Burst.{replay-sent}
+use Rattle.replays.specs.Replays.{replay-sent}
 use Rattle.units.proofs.Lengths.{control-sent}
 
 -- what ends in n bytes has at least n

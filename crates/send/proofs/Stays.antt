@@ -21,7 +21,7 @@ use Rattle.ends.proofs.Tests.{cond-either}
 use Rattle.ends.proofs.Facts.{stored-is, sound-is}
 use Rattle.ends.proofs.Holds.{sound-holds, counts-of, numbers-hold, units-hold, untold-sound, pending-sound}
 use Rattle.ends.proofs.Walks.{next-border}
-use Rattle.burst.specs.Burst.{fallen, past-unit, moved}
+use Rattle.moves.specs.Moves.{fallen, past-unit, moved}
 use Rattle.send.specs.Send.{verdict, sent-by, send}
 use Rattle.send.proofs.Cases.{admitted}
 use Rattle.burst.proofs.Ready.{unit-whole}

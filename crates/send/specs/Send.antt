@@ -1,4 +1,5 @@
--- Send writes what goes on the wire next, step by step of 01, "Send". Assumes nothing.
+-- Send writes what goes on the wire next (01, "Send"): its refusals, its answer, and what the output then holds. The steps are those of
+-- crate burst. Assumes nothing.
 use mathlib.Core.Bool.{not, cond}
 use mathlib.Core.List.{List, _++_}
 use Prim.Native.Nat.{ℕ}
@@ -13,7 +14,8 @@ use Rattle.ends.specs.declared.state.Verdict.the-variants.{Refused, Admitted}
 use Rattle.send.specs.declared.Answer.{Answer}
 use Rattle.send.specs.declared.Answer.the-variants as answer
 use Rattle.send.specs.declared.Sent.{Sent}
-use Rattle.burst.specs.Burst.{burst, burst-flits, moved}
+use Rattle.moves.specs.Moves.{moved}
+use Rattle.burst.specs.Burst.{burst, burst-flits}
 
 -- the refusals of send, in the table's order; 4 OUT: output under 640
 unfoldable pub verdict : End → List ℕ → ℕ → Verdict

@@ -54,7 +54,7 @@ pub fn send_with(
         Verdict::Admitted => {
             let run = found.previous;
             let flits = burst::write_burst(t, e, store, run, output, errors, information);
-            let end = burst::moved(e, run);
+            let end = moves::moved(e, run);
             Sent {
                 answer: Answer::Flits(flits),
                 end: end,

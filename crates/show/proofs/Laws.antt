@@ -1,112 +1,154 @@
--- Laws of the texts: one more number of the information, and how long they are. Assumes nothing.
-use mathlib.Core.List.{List, _++_}
-use mathlib.Core.Path.{_≡_, refl}
-use Prim.Native.Nat.{ℕ, zero, suc, _+_, _*_, _≤_}
-use native.Mathlib.Numerals.{add-one}
+-- The texts as forms with their numbers, and how long they are. Assumes nothing.
+use mathlib.Core.Bool.{Bool, true, false}
+use mathlib.Core.List.{List, [], _∷_, _++_, append-assoc}
+use mathlib.Core.Path.{_≡_, refl, ap, ap₂, sym, _∙_}
+use Prim.Native.Nat.{ℕ, _≤_}
 use native.Mathlib.Omega.{arith}
 use lib.ListN.{length, getD, length-append}
-use Rattle.text.specs.Text.{ascii, decimal}
-use Rattle.text.proofs.Laws.{length-decimal}
+use mir.Val.{boolByte}
+use Rattle.text.specs.Text.{ascii, filled, field}
+use Rattle.text.proofs.Laws.{filled-short, in-turn, joined, fields-joined}
 use Rattle.dump.specs.Dump.{adler}
+use Rattle.words.specs.Words.{mode-word}
 use Rattle.words.proofs.Laws.{mode-short}
 use Rattle.ends.specs.declared.state.End.{End}
+use Rattle.ticket.specs.Ticket.{in-order}
 use Rattle.ticket.specs.declared.Ticket.{Ticket}
 use Rattle.show.specs.Show.{mark, ring-part, sending-part, receiving-part, mode-part, older, information-part, sums-part, state-text, ticket-text}
 
--- ---- the information
+-- the number of a bool
+mark-is : (set : Bool) → boolByte set ≡ mark set
+mark-is true = refl
+mark-is false = refl
 
-pub older-next : (l : List ℕ) (i : ℕ) → older l i ++ (ascii "," ++ decimal (getD l (i + 1) 0)) ≡ older l (i + 1)
-unfolding older
-older-next l i = rw add-one refl
+-- ---- what comes before the mode's word
 
--- ---- how long the texts are
+abbrev before-mode : End → List ℕ
+before-mode e = ring-part e ++ sending-part e ++ receiving-part e ++ ascii " mode="
 
-pub ring-short : (e : End) → length (ring-part e) ≤ 128
-unfolding ring-part
-ring-short e =
-    simp length-append
-    (omega (
-      arith,
-      length-decimal (e .capacity .0),
-      length-decimal (e .first),
-      length-decimal (e .held .0),
-      length-decimal (e .kept .0),
-    ))
+abbrev numbers-form : List ℕ
+numbers-form =
+    ascii " capacity=# first=# held=# kept=# oldest=# cursor=# sent=# acked=# wanted=# position=# owed=# stalled=# data=# untold=# mode="
 
-pub sending-short : (e : End) → length (sending-part e) ≤ 128
-unfolding sending-part
-sending-short e =
-    simp length-append
-    (omega (
-      arith,
-      length-decimal (e .oldest .0),
-      length-decimal (e .cursor .0),
-      length-decimal (e .sent .0),
-      length-decimal (e .acknowledged .0),
-    ))
+abbrev receiving-numbers : End → ℕ → List ℕ
+receiving-numbers e stalled = e .wanted .0 ∷ e .position .0 ∷ e .owed .0 ∷ stalled ∷ e .gathered .0 ∷ e .untold .0 ∷ []
 
-pub receiving-short : (e : End) → length (receiving-part e) ≤ 192
-unfolding receiving-part
-receiving-short e =
-    simp length-append
-    (omega (
-      arith,
-      length-decimal (e .wanted .0),
-      length-decimal (e .position .0),
-      length-decimal (e .owed .0),
-      length-decimal (mark (e .stalled)),
-      length-decimal (e .gathered .0),
-      length-decimal (e .untold .0),
-    ))
+abbrev numbers : End → ℕ → List ℕ
+numbers e stalled =
+    e .capacity .0 ∷ e .first ∷ e .held .0 ∷ e .kept .0 ∷ e .oldest .0 ∷ e .cursor .0 ∷ e .sent .0 ∷ e .acknowledged .0
+    ∷ receiving-numbers e stalled
 
-pub mode-part-short : (e : End) → length (mode-part e) ≤ 128
-unfolding mode-part
-mode-part-short e =
-    simp length-append
-    (omega (
-      arith,
-      mode-short (e .mode),
-      length-decimal (e .cause),
-      length-decimal (e .discards),
-      length-decimal (mark (e .pending)),
-    ))
+abbrev receiving-form : List ℕ
+receiving-form = ascii " wanted=# position=# owed=# stalled=# data=# untold=# mode="
 
-older-short : (l : List ℕ) (n : ℕ) → length (older l n) ≤ 21 * n
-unfolding older
-older-short l zero = omega arith
-older-short l (suc n) = simp length-append (omega (arith, older-short l n, length-decimal (getD l (suc n) 0)))
+receiving-is : (e : End) → filled receiving-form (receiving-numbers e (mark (e .stalled))) ≡ receiving-part e ++ ascii " mode="
+unfolding filled receiving-part
+receiving-is e =
+    fields-joined (field " wanted=" (e .wanted .0))
+    ((ascii " position=", e .position .0) ∷ (ascii " owed=", e .owed .0) ∷ (ascii " stalled=", mark (e .stalled)) ∷ (ascii " data=", e .gathered .0) ∷ (ascii " untold=", e .untold .0) ∷ [])
+    (ascii " mode=")
 
-pub information-short : (l : List ℕ) → length (information-part l) ≤ 192
-unfolding information-part
-information-short l = simp length-append (omega (arith, length-decimal (getD l 0 0), older-short l 7))
+numbers-marked : (e : End) → filled numbers-form (numbers e (mark (e .stalled))) ≡ before-mode e
+unfolding filled ring-part sending-part
+numbers-marked e =
+    let after = filled receiving-form (receiving-numbers e (mark (e .stalled))) in
+    fields-joined (field " capacity=" (e .capacity .0))
+    ((ascii " first=", e .first) ∷ (ascii " held=", e .held .0) ∷ (ascii " kept=", e .kept .0) ∷ [])
+    (field " oldest=" (e .oldest .0) ++ in-turn ((ascii " cursor=", e .cursor .0) ∷ (ascii " sent=", e .sent .0) ∷ (ascii " acked=", e .acknowledged .0) ∷ []) after)
+    ∙ ap (λ (l : List ℕ). ring-part e ++ l)
+    (fields-joined (field " oldest=" (e .oldest .0)) ((ascii " cursor=", e .cursor .0) ∷ (ascii " sent=", e .sent .0) ∷ (ascii " acked=", e .acknowledged .0) ∷ []) after)
+    ∙ sym (append-assoc (ring-part e) (sending-part e) after)
+    ∙ ap (λ (l : List ℕ). (ring-part e ++ sending-part e) ++ l) (receiving-is e)
+    ∙ sym (append-assoc (ring-part e ++ sending-part e) (receiving-part e) (ascii " mode="))
 
-pub sums-short : (store hold : List ℕ) → length (sums-part store hold) ≤ 64
-unfolding sums-part
-sums-short store hold = simp length-append (omega (arith, length-decimal (adler store), length-decimal (adler hold)))
+pub numbers-are : (e : End) → filled numbers-form (numbers e (boolByte (e .stalled))) ≡ before-mode e
+numbers-are e = ap (λ (stalled : ℕ). filled numbers-form (numbers e stalled)) (mark-is (e .stalled)) ∙ numbers-marked e
+
+pub numbers-short : (e : End) → length (before-mode e) ≤ 512
+numbers-short e = omega (arith, filled-short numbers-form (numbers e (boolByte (e .stalled))), ap length (numbers-are e))
+
+-- ---- what comes after it
+
+abbrev after-mode : End → ℕ → ℕ → List ℕ
+after-mode e store hold =
+    field " cause=" (e .cause) ++ field " discards=" (e .discards) ++ field " pending=" (mark (e .pending)) ++ information-part (e .information)
+    ++ (field " store=" store ++ field " hold=" hold ++ ascii "\n")
+
+abbrev rest-form : List ℕ
+rest-form = ascii " cause=# discards=# pending=# info=#,#,#,#,#,#,#,# store=# hold=#\n"
+
+abbrev rest-numbers : End → ℕ → ℕ → ℕ → List ℕ
+rest-numbers e pending store hold =
+    e .cause ∷ e .discards ∷ pending ∷ getD (e .information) 0 0 ∷ getD (e .information) 1 0 ∷ getD (e .information) 2 0
+    ∷ getD (e .information) 3 0 ∷ getD (e .information) 4 0 ∷ getD (e .information) 5 0 ∷ getD (e .information) 6 0
+    ∷ getD (e .information) 7 0 ∷ store ∷ hold ∷ []
+
+information-is : (l rest : List ℕ)
+    → field " info=" (getD l 0 0) ++ (field "," (getD l 1 0) ++ in-turn ((ascii ",", getD l 2 0) ∷ (ascii ",", getD l 3 0) ∷ (ascii ",", getD l 4 0) ∷ (ascii ",", getD l 5 0) ∷ (ascii ",", getD l 6 0) ∷ (ascii ",", getD l 7 0) ∷ []) rest)
+    ≡ information-part l ++ rest
+unfolding information-part older
+information-is l rest =
+    ap (λ (t : List ℕ). field " info=" (getD l 0 0) ++ t)
+    (fields-joined (field "," (getD l 1 0)) ((ascii ",", getD l 2 0) ∷ (ascii ",", getD l 3 0) ∷ (ascii ",", getD l 4 0) ∷ (ascii ",", getD l 5 0) ∷ (ascii ",", getD l 6 0) ∷ (ascii ",", getD l 7 0) ∷ []) rest)
+    ∙ sym (append-assoc (field " info=" (getD l 0 0)) (older l 7) rest)
+
+rest-marked : (e : End) (store hold : ℕ) → filled rest-form (rest-numbers e (mark (e .pending)) store hold) ≡ after-mode e store hold
+unfolding filled
+rest-marked e store hold =
+    let first = joined (field " cause=" (e .cause)) ((ascii " discards=", e .discards) ∷ (ascii " pending=", mark (e .pending)) ∷ []) in
+    let sums = filled (ascii " store=# hold=#\n") (store ∷ hold ∷ []) in
+    fields-joined (field " cause=" (e .cause)) ((ascii " discards=", e .discards) ∷ (ascii " pending=", mark (e .pending)) ∷ []) _
+    ∙ ap (λ (l : List ℕ). first ++ l) (information-is (e .information) sums)
+    ∙ sym (append-assoc first (information-part (e .information)) sums)
+    ∙ ap (λ (l : List ℕ). (first ++ information-part (e .information)) ++ l) (fields-joined (field " store=" store) ((ascii " hold=", hold) ∷ []) (ascii "\n"))
+
+pub rest-is : (e : End) (store hold : ℕ) → filled rest-form (rest-numbers e (boolByte (e .pending)) store hold) ≡ after-mode e store hold
+rest-is e store hold =
+    ap (λ (pending : ℕ). filled rest-form (rest-numbers e pending store hold)) (mark-is (e .pending)) ∙ rest-marked e store hold
+
+pub rest-short : (e : End) (store hold : ℕ) → length (after-mode e store hold) ≤ 384
+rest-short e store hold = omega (arith, filled-short rest-form (rest-numbers e (boolByte (e .pending)) store hold), ap length (rest-is e store hold))
+
+-- ---- the state
+
+parts-joined : (ring sending receiving mode word cause discards pending information sums : List ℕ)
+    → (ring ++ sending ++ receiving ++ mode) ++ word ++ (cause ++ discards ++ pending ++ information ++ sums)
+    ≡ ring ++ sending ++ receiving ++ (mode ++ word ++ cause ++ discards ++ pending) ++ information ++ sums
+parts-joined ring sending receiving mode word cause discards pending information sums = simp append-assoc
+
+pub state-is : (e : End) (store hold : List ℕ) (a b : ℕ) → a ≡ adler store → b ≡ adler hold
+    → before-mode e ++ mode-word (e .mode) ++ after-mode e a b ≡ state-text e store hold
+unfolding state-text mode-part sums-part
+state-is e store hold a b p q =
+    ap₂ (λ (m n : ℕ). before-mode e ++ mode-word (e .mode) ++ after-mode e m n) p q
+    ∙ parts-joined (ring-part e) (sending-part e) (receiving-part e) (ascii " mode=") (mode-word (e .mode)) (field " cause=" (e .cause)) (field " discards=" (e .discards)) (field " pending=" (mark (e .pending))) (information-part (e .information)) (field " store=" (adler store) ++ field " hold=" (adler hold) ++ ascii "\n")
 
 pub state-short : (e : End) (store hold : List ℕ) → length (state-text e store hold) ≤ 1024
-unfolding state-text
 state-short e store hold =
-    simp length-append
-    (omega (
+    let before = before-mode e ++ mode-word (e .mode) in
+    let after = after-mode e (adler store) (adler hold) in
+    omega (
       arith,
-      ring-short e,
-      sending-short e,
-      receiving-short e,
-      mode-part-short e,
-      information-short (e .information),
-      sums-short store hold,
-    ))
+      ap length (state-is e store hold (adler store) (adler hold) refl refl),
+      length-append before after,
+      length-append (before-mode e) (mode-word (e .mode)),
+      numbers-short e,
+      mode-short (e .mode),
+      rest-short e (adler store) (adler hold),
+    )
+
+-- ---- the ticket
+
+abbrev ticket-form : List ℕ
+ticket-form = ascii "ticket refuse=0 accepted=# delivered=# damaged=# duplicate=# downs=#\n"
+
+pub ticket-is : (t : Ticket) → filled ticket-form (in-order t) ≡ ticket-text t
+unfolding filled ticket-text
+ticket-is t =
+    ap (λ (l : List ℕ). ascii "ticket refuse=0" ++ l)
+    (fields-joined (field " accepted=" (t .accepted))
+    ((ascii " delivered=", t .delivered) ∷ (ascii " damaged=", t .damaged) ∷ (ascii " duplicate=", t .duplicate) ∷ (ascii " downs=", t .downs) ∷ [])
+    (ascii "\n"))
 
 pub ticket-short : (t : Ticket) → length (ticket-text t) ≤ 256
-unfolding ticket-text
-ticket-short t =
-    simp length-append
-    (omega (
-      arith,
-      length-decimal (t .accepted),
-      length-decimal (t .delivered),
-      length-decimal (t .damaged),
-      length-decimal (t .duplicate),
-      length-decimal (t .downs),
-    ))
+ticket-short t = omega (arith, filled-short ticket-form (in-order t), ap length (ticket-is t))

@@ -2,18 +2,14 @@
 use mathlib.Core.Bool.{Bool, cond}
 use mathlib.Core.List.{List, [], _++_}
 use Prim.Native.Nat.{ℕ, zero, suc}
-use Prim.Native.String.{String}
 use lib.ListN.{getD}
-use Rattle.text.specs.Text.{ascii, decimal}
+use Rattle.text.specs.Text.{ascii, field}
 use Rattle.dump.specs.Dump.{adler}
 use Rattle.words.specs.Words.{mode-word}
 use Rattle.ends.specs.declared.state.End.{End}
 use Rattle.ticket.specs.declared.Ticket.{Ticket}
 
 -- ---- the state of an end
-
-abbrev pub field : String → ℕ → List ℕ
-field key n = ascii key ++ decimal n
 
 -- 1 where it is set
 abbrev pub mark : Bool → ℕ

@@ -4,7 +4,8 @@ use mathlib.Core.Path.{_≡_, refl}
 use Prim.Native.Nat.{ℕ}
 use Rattle.ends.specs.State.{start}
 use Rattle.ends.specs.declared.state.Started.{Started}
-use Rattle.accept.specs.Accept.{accept, accept-store, flits-of}
+use Rattle.admission.specs.Admission.{flits-of}
+use Rattle.accept.specs.Accept.{accept, accept-store}
 use Rattle.accept.specs.declared.Accepted.{Accepted}
 use Rattle.send.specs.Send.{send, send-output}
 use Rattle.send.specs.declared.Sent.{Sent as SentBy}
@@ -12,44 +13,40 @@ use Rattle.receive.specs.Receive.{receive, receive-hold}
 use Rattle.receive.specs.declared.Received.{Received as ReceivedBy}
 use Rattle.ticket.specs.Ticket.{Call, nothing, after}
 use Rattle.ticket.specs.declared.Ticket.{Ticket}
-use Rattle.sides.specs.declared.Side.{Side}
-use Rattle.sides.specs.declared.Took.{Took}
-use Rattle.sides.specs.declared.Sent.{Sent}
-use Rattle.sides.specs.declared.Received.{Received}
-use Rattle.sides.specs.Sides.{repeated, lent, after-call, started, accepts, sends, sends-output, receives}
+use Rattle.settings.specs.Settings.{after-call}
+use Rattle.settings.specs.declared.Side.{Side}
+use Rattle.sides.specs.Sides.{repeated, lent, started, accepts, sends, sends-output, receives}
 
-pub started-is : (bytes n : ℕ) (r : Started) (took : Took) → n ≡ bytes → r ≡ start n
-    → took ≡ record { side = record { end = r .end; kept = bytes; store = bytes; hold = 576; ticket = nothing }; verdict = r .verdict }
-    → took ≡ started bytes
+pub started-is : (bytes n : ℕ) (r : Started) (side : Side) → n ≡ bytes → r ≡ start n
+    → side ≡ record { end = r .end; kept = bytes; store = bytes; hold = 576; ticket = nothing } → record { side = side; verdict = r .verdict } ≡ started bytes
 unfolding started
-started-is bytes n r took e f g = rw (g, f, e) refl
+started-is bytes n r side e f g = rw (g, f, e) refl
 
 module _ (s : Side) (store l : List ℕ) (e : l ≡ lent (s .store) store) where
-  pub accepted-is : (unit : List ℕ) (r : Accepted) (t : Ticket) (took : Took) → r ≡ accept (s .end) l unit
-      → t ≡ after (s .ticket) (Call.accepts (r .verdict) (flits-of unit)) → took ≡ record { side = after-call s (r .end) t; verdict = r .verdict }
-      → took ≡ accepts s store unit
+  pub accepted-is : (unit : List ℕ) (r : Accepted) (t : Ticket) (side : Side) → r ≡ accept (s .end) l unit
+      → t ≡ after (s .ticket) (Call.accepts (r .verdict) (flits-of unit)) → side ≡ after-call s (r .end) t
+      → record { side = side; verdict = r .verdict } ≡ accepts s store unit
   unfolding accepts
-  accepted-is unit r t took f g h = rw (h, g, f, e) refl
+  accepted-is unit r t side f g h = rw (h, g, f, e) refl
 
-  pub sent-is : (output n : ℕ) (r : SentBy) (sent : Sent) → n ≡ output → r ≡ send (s .end) l n
-      → sent ≡ record { side = after-call s (r .end) (s .ticket); answer = r .answer } → sent ≡ sends s store output
+  pub stored-is : (unit after : List ℕ) → after ≡ accept-store (s .end) l unit → after ≡ accept-store (s .end) (lent (s .store) store) unit
+  stored-is unit after f = rw (f, e) refl
+
+  pub sent-is : (output n : ℕ) (r : SentBy) (side : Side) → n ≡ output → r ≡ send (s .end) l n → side ≡ after-call s (r .end) (s .ticket)
+      → record { side = side; answer = r .answer } ≡ sends s store output
   unfolding sends
-  sent-is output n r sent i f h = rw (h, f, i, e) refl
+  sent-is output n r side i f h = rw (h, f, i, e) refl
 
   pub sent-output-is : (n errors information : ℕ) (output after : List ℕ) → output ≡ repeated n 165 → after ≡ send-output (s .end) l output errors information
       → after ≡ sends-output s store n errors information
   unfolding sends-output
   sent-output-is n errors information output after i f = rw (f, i, e) refl
 
-  pub held-is : (hold m : List ℕ) (flit after : List ℕ) → m ≡ lent (s .hold) hold → after ≡ receive-hold (s .end) l m flit
-      → after ≡ receive-hold (s .end) (lent (s .store) store) (lent (s .hold) hold) flit
-  held-is hold m flit after i f = rw (f, e, i) refl
+  module _ (hold m : List ℕ) (i : m ≡ lent (s .hold) hold) (flit : List ℕ) where
+    pub received-is : (r : ReceivedBy) (t : Ticket) (side : Side) → r ≡ receive (s .end) l m flit → t ≡ after (s .ticket) (Call.receives (r .answer))
+        → side ≡ after-call s (r .end) t → record { side = side; answer = r .answer } ≡ receives s store hold flit
+    unfolding receives
+    received-is r t side f g h = rw (h, g, f, e, i) refl
 
-  pub stored-is : (unit after : List ℕ) → after ≡ accept-store (s .end) l unit → after ≡ accept-store (s .end) (lent (s .store) store) unit
-  stored-is unit after f = rw (f, e) refl
-
-  pub received-is : (hold m : List ℕ) (flit : List ℕ) (r : ReceivedBy) (t : Ticket) (received : Received) → m ≡ lent (s .hold) hold
-      → r ≡ receive (s .end) l m flit → t ≡ after (s .ticket) (Call.receives (r .answer))
-      → received ≡ record { side = after-call s (r .end) t; answer = r .answer } → received ≡ receives s store hold flit
-  unfolding receives
-  received-is hold m flit r t received i f g h = rw (h, g, f, e, i) refl
+    pub held-is : (after : List ℕ) → after ≡ receive-hold (s .end) l m flit → after ≡ receive-hold (s .end) (lent (s .store) store) (lent (s .hold) hold) flit
+    held-is after f = rw (f, e, i) refl

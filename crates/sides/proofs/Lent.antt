@@ -1,22 +1,20 @@
 -- Laws of the buffers: zeros after the kept bytes make what is lent, and what a call leaves is the kept bytes again. Assumes nothing.
 use mathlib.Core.Bool.{Bool, true, false, cond}
-use mathlib.Core.List.{List, [], _∷_, _++_, append-nil, append-assoc}
-use mathlib.Core.Path.{_≡_, refl, sym, ap, ap₂, _∙_}
-use Prim.Native.Nat.{ℕ, suc, _+_, _-_, _≤_, _<_}
+use mathlib.Core.List.{List, [], _∷_, _++_, append-nil}
+use mathlib.Core.Path.{_≡_, refl, sym, ap, ap₂, subst, _∙_}
+use Prim.Native.Nat.{ℕ, zero, suc, _+_, _-_, _≤_, _<_}
 use native.Mathlib.Numerals.{add-one}
 use native.Mathlib.Omega.{arith}
 use borrow.Author.Tests.{ltb-true, ltb-false, le-leb, lt-leb, ne-eqb}
 use borrow.Rule.Slice.PartMut.{putMid, mid-len, post-is}
 use lib.Dec.{ltb}
-use lib.ListN.{length, take, drop, set, getD, length-append, length-take, length-replicate, take-append-drop, drop-of-length-le, replicate-append-replicate}
-use lib.Seq.{length-take-le, take-all, drop-cons, append-snoc, set-at, drop-at, take-take, take-add, take-append-le, take-append-add}
+use lib.ListN.{length, take, drop, set, getD, length-append, length-take, length-drop, replicate, length-replicate, take-append-drop, drop-of-length-le, replicate-append-replicate}
+use lib.Seq.{length-take-le, length-front, take-all, drop-cons, append-snoc, set-at, take-at, drop-at, drop-drop, take-add, take-append-le, take-append-add, drop-append-add}
 use native.Mathlib.Nat.{sub-zero}
 use Rattle.text.specs.Text.{written}
 use Rattle.text.proofs.Laws.{written-none, length-written}
-use Rattle.tokens.specs.Tokens.{over}
-use Rattle.tokens.proofs.Figures.{over-front}
-use Rattle.ends.proofs.Tests.{cond-true, cond-false}
-use Rattle.sides.specs.Sides.{repeated, lent, kept-after, fill-fits}
+use Rattle.settings.specs.declared.Side.{Side}
+use Rattle.sides.specs.Sides.{Clean, repeated, lent, kept-after, accepts-store, receives-hold, fill-fits}
 
 -- ---- bytes alike
 
@@ -24,9 +22,13 @@ pub length-repeated : (n b : ℕ) → length (repeated n b) ≡ n
 unfolding repeated
 length-repeated n b = length-replicate n b
 
+repeated-add : (n m b : ℕ) → repeated n b ++ repeated m b ≡ repeated (n + m) b
+unfolding repeated
+repeated-add n m b = replicate-append-replicate n m b
+
 repeated-more : (n b : ℕ) → repeated n b ++ (b ∷ []) ≡ repeated (n + 1) b
 unfolding repeated
-repeated-more n b = replicate-append-replicate n 1 b
+repeated-more n b = repeated-add n 1 b
 
 pub repeated-none : (b : ℕ) (l : List ℕ) → l ≡ repeated 0 b ++ l
 unfolding repeated
@@ -52,33 +54,108 @@ pub length-lent : (n : ℕ) (kept : List ℕ) → length (lent n kept) ≡ n
 unfolding lent
 length-lent n kept = simp (length-append, length-take, length-repeated) (omega arith)
 
--- a buffer with its own first bytes in them
-over-own : (xs : List ℕ) (n : ℕ) → n ≤ length xs → xs ≡ over (take n xs) xs
-unfolding over
-over-own xs n h = sym (ap (λ (i : ℕ). take n xs ++ drop i xs) (length-take-le n xs h) ∙ take-append-drop n xs)
+-- the kept bytes, where all are lent, and zeros after them
+lent-whole : (n : ℕ) (kept : List ℕ) → length kept ≤ n → kept ++ repeated (n - length kept) 0 ≡ lent n kept
+unfolding lent
+lent-whole n kept h = ap (λ (x : List ℕ). x ++ repeated (n - length kept) 0) (sym (take-all n kept h))
 
-pub cleared-longer : (xs ys : List ℕ) (kept n : ℕ) → kept ≤ n → n ≤ length xs → ys ≡ repeated (length (take (n - kept) (drop kept xs))) 0
-    → putMid kept (n - kept) xs ys ≡ over (lent n (take kept xs)) xs
-unfolding lent over
-cleared-longer xs ys kept n h k e =
-    let a = length-take-le kept xs (omega arith) in
-    let w : length (take (n - kept) (drop kept xs)) ≡ n - length (take kept xs) = mid-len kept n xs k ∙ omega arith in
-    let front : take kept xs ++ ys ≡ lent n (take kept xs) =
-    ap₂ (λ (x y : List ℕ). x ++ y) (sym (take-all n (take kept xs) (omega arith))) (e ∙ ap (λ (i : ℕ). repeated i 0) w) in
-    sym (append-assoc (take kept xs) ys (drop (n - kept) (drop kept xs)))
-    ∙ ap₂ (λ (x y : List ℕ). x ++ y) front (post-is kept n xs h ∙ ap (λ (i : ℕ). drop i xs) (sym (length-lent n (take kept xs))))
+lent-none : (n : ℕ) → lent n [] ≡ repeated n 0
+lent-none n = sym (lent-whole n [] (omega arith)) ∙ ap (λ (i : ℕ). repeated i 0) (sub-zero n)
 
-pub cleared-shorter : (xs : List ℕ) (kept n : ℕ) → n ≤ kept → kept ≤ length xs → xs ≡ over (lent n (take kept xs)) xs
+take-repeated : (n m b : ℕ) → n ≤ m → take n (repeated m b) ≡ repeated n b
+unfolding repeated
+take-repeated zero m b h = refl
+take-repeated (suc n) zero b h = absurd (omega arith)
+take-repeated (suc n) (suc m) b h = ap (λ (l : List ℕ). b ∷ l) (take-repeated n m b (omega arith))
+
+drop-repeated : (n m b : ℕ) → drop n (repeated m b) ≡ repeated (m - n) b
+unfolding repeated
+drop-repeated zero m b = ap (λ (i : ℕ). replicate i b) (sym (sub-zero m))
+drop-repeated (suc n) zero b = ap (λ (i : ℕ). replicate i b) {x = 0} {y = 0 - suc n} (omega arith)
+drop-repeated (suc n) (suc m) b = drop-repeated n m b ∙ ap (λ (i : ℕ). replicate i b) {x = m - n} {y = suc m - suc n} (omega arith)
+
+lent-zero : (kept : List ℕ) → lent 0 kept ≡ []
 unfolding lent repeated
-cleared-shorter xs kept n h k =
-    let a = length-take-le kept xs k in
-    let z : 0 ≡ n - length (take kept xs) = omega arith in
-    over-own xs n (omega arith)
-    ∙ ap (λ (x : List ℕ). over x xs) (sym (append-nil (take n xs)) ∙ ap₂ (λ (x : List ℕ) (i : ℕ). x ++ repeated i 0) (sym (take-take n kept xs h)) z)
+lent-zero kept = ap (λ (i : ℕ). replicate i 0) {x = 0 - length kept} {y = 0} (omega arith)
+
+lent-more : (n x : ℕ) (kept : List ℕ) → lent (suc n) (x ∷ kept) ≡ x ∷ lent n kept
+unfolding lent
+lent-more n x kept = ap (λ (i : ℕ). x ∷ (take n kept ++ repeated i 0)) {x = suc n - suc (length kept)} {y = n - length kept} (omega arith)
+
+-- fewer bytes lent are the first of more
+take-lent : (n m : ℕ) (kept : List ℕ) → n ≤ m → take n (lent m kept) ≡ lent n kept
+take-lent n m [] h = ap (take n) (lent-none m) ∙ take-repeated n m 0 h ∙ sym (lent-none n)
+take-lent zero m (x ∷ kept) h = sym (lent-zero (x ∷ kept))
+take-lent (suc n) zero (x ∷ kept) h = absurd (omega arith)
+take-lent (suc n) (suc m) (x ∷ kept) h =
+    ap (take (suc n)) (lent-more m x kept) ∙ ap (λ (l : List ℕ). x ∷ l) (take-lent n m kept (omega arith)) ∙ sym (lent-more n x kept)
+
+-- ---- clean buffers
+
+-- all of a buffer is kept
+pub clean-whole : (xs : List ℕ) (n : ℕ) → length xs ≤ n → Clean n xs
+unfolding repeated
+clean-whole xs n h = drop-of-length-le xs {i = n} h ∙ ap (λ (i : ℕ). repeated i 0) {x = 0} {y = length xs - n} (omega arith)
+
+pub clean-at : (xs : List ℕ) (i j : ℕ) → i ≡ j → Clean i xs → Clean j xs
+clean-at xs i j e z = subst (λ (k : ℕ). Clean k xs) e z
+
+-- more bytes are kept
+pub clean-past : (xs : List ℕ) (i j : ℕ) → i ≤ j → Clean i xs → Clean j xs
+clean-past xs i j h z =
+    ap (λ (k : ℕ). drop k xs) {x = j} {y = i + (j - i)} (omega arith)
+    ∙ sym (drop-drop (j - i) i xs)
+    ∙ ap (drop (j - i)) z
+    ∙ drop-repeated (j - i) (length xs - i) 0
+    ∙ ap (λ (k : ℕ). repeated k 0) (omega arith)
+
+-- a clean buffer is what is lent of the kept bytes
+clean-is : (xs : List ℕ) (kept : ℕ) → kept ≤ length xs → Clean kept xs → xs ≡ lent (length xs) (take kept xs)
+clean-is xs kept h z =
+    let a = length-take-le kept xs h in
+    sym (take-append-drop kept xs)
+    ∙ ap (λ (x : List ℕ). take kept xs ++ x) (z ∙ ap (λ (i : ℕ). repeated (length xs - i) 0) (sym a))
+    ∙ lent-whole (length xs) (take kept xs) (omega arith)
+
+-- and the other way round
+pub lent-clean : (xs kept : List ℕ) (n m : ℕ) → xs ≡ lent n kept → length kept ≡ m → m ≤ n → Clean m xs × (take m xs ≡ kept) × (length xs ≡ n)
+lent-clean xs kept n m e l h =
+    let same : xs ≡ kept ++ repeated (n - length kept) 0 = e ∙ sym (lent-whole n kept (omega arith)) in
+    let size : length xs ≡ n = ap length e ∙ length-lent n kept in (
+      ap (drop m) same ∙ drop-at kept (repeated (n - length kept) 0) m l ∙ ap₂ (λ (i j : ℕ). repeated (i - j) 0) (sym size) l,
+      ap (take m) same ∙ take-at kept (repeated (n - length kept) 0) m l,
+      size,
+    )
+
+-- all zeros
+pub zeros-clean : (xs : List ℕ) (n m : ℕ) → xs ≡ repeated n 0 → m ≤ n → Clean m xs × (take m xs ≡ repeated m 0) × (length xs ≡ n)
+zeros-clean xs n m e h =
+    let size : length xs ≡ n = ap length e ∙ length-repeated n 0 in
+    (ap (drop m) e ∙ drop-repeated m n 0 ∙ ap (λ (i : ℕ). repeated (i - m) 0) (sym size), ap (take m) e ∙ take-repeated m n 0 h, size)
+
+-- zeros from one place up to another, where what lies past them is 0
+pub cleared-some : (xs ys : List ℕ) (from to : ℕ) → from < to → to ≤ length xs → Clean (from + (to - from)) xs
+    → ys ≡ repeated (length (take (to - from) (drop from xs))) 0 → putMid from (to - from) xs ys ≡ lent (length xs) (take from xs)
+cleared-some xs ys from to h k z e =
+    let a = length-take-le from xs (omega arith) in
+    let past = clean-at xs (from + (to - from)) to (omega arith) z in
+    let zeros : ys ++ drop (to - from) (drop from xs) ≡ repeated (length xs - length (take from xs)) 0 =
+    ap₂ (λ (x y : List ℕ). x ++ y) (e ∙ ap (λ (i : ℕ). repeated i 0) (mid-len from to xs k)) (post-is from to xs (omega arith) ∙ past)
+    ∙ repeated-add (to - from) (length xs - to) 0
+    ∙ ap (λ (i : ℕ). repeated i 0) (omega arith) in
+    ap (λ (x : List ℕ). take from xs ++ x) zeros ∙ lent-whole (length xs) (take from xs) (omega arith)
+
+-- no byte is cleared
+pub cleared-none : (xs : List ℕ) (from to : ℕ) → to ≤ from → from ≤ length xs → Clean (from + (to - from)) xs → xs ≡ lent (length xs) (take from xs)
+cleared-none xs from to h k z = clean-is xs from k (clean-at xs (from + (to - from)) from (omega arith) z)
+
+-- every byte is cleared
+pub cleared-all : {ys : List ℕ} {m n : ℕ} → ys ≡ lent m [] → m ≡ n → ys ≡ repeated n 0
+cleared-all {ys} {m} {n} e f = e ∙ lent-none m ∙ ap (λ (i : ℕ). repeated i 0) f
 
 -- ---- what is kept
 
-pub back : (xs after : List ℕ) (kept n : ℕ) → kept ≤ length xs → n ≤ length xs → length after ≡ n
+back : (xs after : List ℕ) (kept n : ℕ) → kept ≤ length xs → n ≤ length xs → length after ≡ n
     → take kept (after ++ drop n xs) ≡ kept-after after (take kept xs)
 unfolding kept-after
 back xs after kept n h k e = by (ltb kept n) refl
@@ -102,81 +179,78 @@ back xs after kept n h k e = by (ltb kept n) refl
         ∙ take-append-add after (drop n xs) (kept - n)
         ∙ ap₂ (λ (x y : List ℕ). x ++ y) (sym (take-all (length (take kept xs)) after (omega arith))) (sym dropped)
 
+length-kept-after : (after kept : List ℕ) → length (kept-after after kept) ≡ length kept
+unfolding kept-after
+length-kept-after after kept = simp (length-append, length-take, length-drop) (omega arith)
+
+pub length-accepts-store : (s : Side) (store unit : List ℕ) → length (accepts-store s store unit) ≡ length store
+unfolding accepts-store
+length-accepts-store s store unit = length-kept-after _ store
+
+pub length-receives-hold : (s : Side) (store hold flit : List ℕ) → length (receives-hold s store hold flit) ≡ length hold
+unfolding receives-hold
+length-receives-hold s store hold flit = length-kept-after _ hold
+
+-- ---- a call with a part of a buffer, as the borrow checker says it
+
+module _ (xs : List ℕ) (kept n : ℕ) (h : kept ≤ length xs) (k : n ≤ length xs) (z : Clean kept xs) where
+  pub lent-part : take (n - 0) xs ≡ lent n (take kept xs)
+  lent-part = ap₂ (λ (m : ℕ) (x : List ℕ). take m x) (sub-zero n) (clean-is xs kept h z) ∙ take-lent n (length xs) (take kept xs) k
+
+  -- what the call left: past what it may have written, and past the kept bytes, the buffer is clean still
+  module _ (after : List ℕ) (l : length after ≡ length (take (n - 0) xs)) where
+    size : length after ≡ n
+    size = l ∙ length-take-le (n - 0) xs (omega arith) ∙ sub-zero n
+
+    pub left-clean : Clean (kept + (n - kept)) (after ++ drop (n - 0) xs)
+    left-clean =
+        let j = kept + (n - kept) in
+        let whole : length (after ++ drop (n - 0) xs) ≡ length xs = length-front xs after (n - 0) l in
+        ap₂ (λ (i m : ℕ). drop i (after ++ drop m xs)) {x = j} {y = length after + (j - n)} (omega (arith, size)) (sub-zero n)
+        ∙ drop-append-add after (drop n xs) (j - n)
+        ∙ drop-drop (j - n) n xs
+        ∙ ap (λ (i : ℕ). drop i xs) {x = n + (j - n)} {y = j} (omega arith)
+        ∙ clean-past xs kept j (omega arith) z
+        ∙ ap (λ (i : ℕ). repeated (i - j) 0) (sym whole)
+
+    -- and, cleared again, it has what is kept of that
+    pub left-part : (after' exit : List ℕ) → after ≡ after' → exit ≡ lent (length (after ++ drop (n - 0) xs)) (take kept (after ++ drop (n - 0) xs))
+        → exit ≡ lent (length xs) (kept-after after' (take kept xs))
+    left-part after' exit e f =
+        f
+        ∙ ap₂ (λ (i : ℕ) (x : List ℕ). lent i x) (length-front xs after (n - 0) l)
+        (ap (λ (i : ℕ). take kept (after ++ drop i xs)) (sub-zero n) ∙ back xs after kept n h k size ∙ ap (λ (x : List ℕ). kept-after x (take kept xs)) e)
+
 -- ---- fill
 
 -- what fill answers and leaves
 abbrev pub Filled : List ℕ → ℕ → ℕ → List ℕ → Bool → List ℕ → Type 0
 Filled xs kept offset bytes fits after =
     (fits ≡ fill-fits kept offset (length bytes))
-    × ((take kept after ≡ cond (fill-fits kept offset (length bytes)) (written (take kept xs) offset bytes) (take kept xs))
-    × (after ≡ cond (fill-fits kept offset (length bytes)) (over (written (take kept xs) offset bytes) xs) xs))
+    × (after ≡ lent (length xs) (cond (fill-fits kept offset (length bytes)) (written (take kept xs) offset bytes) (take kept xs)))
 
-pub fill-none : (xs : List ℕ) (kept offset : ℕ) (bytes : List ℕ) → kept ≤ length xs → length bytes ≡ 0 → Filled xs kept offset bytes true xs
+module _ (xs : List ℕ) (kept offset : ℕ) (bytes : List ℕ) (k : kept ≤ length xs) (z : Clean kept xs) where
+  filled-as : (fits : Bool) → fits ≡ fill-fits kept offset (length bytes) → (after : List ℕ)
+      → after ≡ lent (length xs) (cond fits (written (take kept xs) offset bytes) (take kept xs)) → Filled xs kept offset bytes fits after
+  filled-as fits e after f = (e, f ∙ ap (λ (b : Bool). lent (length xs) (cond b (written (take kept xs) offset bytes) (take kept xs))) e)
+
+  pub fill-not : (length bytes ≡ 0 → ⊥) → kept < offset + length bytes → Filled xs kept offset bytes false xs
+  unfolding fill-fits
+  fill-not n h = filled-as false (sym (simp (ne-eqb (length bytes) 0 n, lt-leb (offset + length bytes) kept h))) xs (clean-is xs kept k z)
+
+  pub fill-does : (after : List ℕ) → (length bytes ≡ 0 → ⊥) → offset + length bytes ≤ kept → after ≡ written (take (kept - 0) xs) offset bytes
+      → Filled xs kept offset bytes true (after ++ drop (kept - 0) xs)
+  unfolding fill-fits
+  fill-does after n h e =
+      let new = written (take kept xs) offset bytes in
+      let same : after ≡ new = e ∙ ap (λ (j : ℕ). written (take j xs) offset bytes) (sub-zero kept) in
+      let l : length new ≡ kept = length-written (take kept xs) offset bytes ∙ length-take-le kept xs k in
+      filled-as true (sym (simp (ne-eqb (length bytes) 0 n, le-leb (offset + length bytes) kept h))) (after ++ drop (kept - 0) xs)
+      (ap₂ (λ (x : List ℕ) (j : ℕ). x ++ drop j xs) same (sub-zero kept)
+      ∙ ap (λ (x : List ℕ). new ++ x) (z ∙ ap (λ (i : ℕ). repeated (length xs - i) 0) (sym l))
+      ∙ lent-whole (length xs) new (omega arith))
+
+pub fill-none : (xs : List ℕ) (kept offset : ℕ) (bytes : List ℕ) → kept ≤ length xs → Clean kept xs → length bytes ≡ 0 → Filled xs kept offset bytes true xs
 unfolding fill-fits
-fill-none xs kept offset [] k h =
-    let same = sym (written-none (take kept xs) offset) in
-    (refl, (same, over-own xs kept k ∙ ap (λ (x : List ℕ). over x xs) same))
-fill-none xs kept offset (x ∷ bytes) k h = absurd (omega arith)
-
-fill-past : (kept offset n : ℕ) → (n ≡ 0 → ⊥) → kept < offset + n → fill-fits kept offset n ≡ false
-unfolding fill-fits
-fill-past kept offset n z h = simp (ne-eqb n 0 z, lt-leb (offset + n) kept h)
-
-pub fill-not : (xs : List ℕ) (kept offset : ℕ) (bytes : List ℕ) → (length bytes ≡ 0 → ⊥) → kept < offset + length bytes
-    → Filled xs kept offset bytes false xs
-fill-not xs kept offset bytes z h =
-    let n = fill-past kept offset (length bytes) z h in
-    let fits = fill-fits kept offset (length bytes) in
-    let new = written (take kept xs) offset bytes in
-    (sym n, (sym (cond-false fits new (take kept xs) n), sym (cond-false fits (over new xs) xs n)))
-
-fill-inside : (kept offset n : ℕ) → (n ≡ 0 → ⊥) → offset + n ≤ kept → fill-fits kept offset n ≡ true
-unfolding fill-fits
-fill-inside kept offset n z h = simp (ne-eqb n 0 z, le-leb (offset + n) kept h)
-
-pub fill-does : (xs : List ℕ) (kept offset : ℕ) (bytes after : List ℕ) → kept ≤ length xs → (length bytes ≡ 0 → ⊥) → offset + length bytes ≤ kept
-    → after ≡ written (take (kept - 0) xs) offset bytes → Filled xs kept offset bytes true (after ++ drop (kept - 0) xs)
-unfolding over
-fill-does xs kept offset bytes after k z h e =
-    let y = fill-inside kept offset (length bytes) z h in
-    let fits = fill-fits kept offset (length bytes) in
-    let new = written (take kept xs) offset bytes in
-    let same : after ≡ new = e ∙ ap (λ (j : ℕ). written (take j xs) offset bytes) (sub-zero kept) in
-    let l : length new ≡ kept = length-written (take kept xs) offset bytes ∙ length-take-le kept xs k in
-    let whole : after ++ drop (kept - 0) xs ≡ over new xs = ap₂ (λ (x : List ℕ) (j : ℕ). x ++ drop j xs) same (sub-zero kept ∙ sym l) in (
-      sym y,
-      (ap (take kept) whole ∙ over-front new xs kept l ∙ sym (cond-true fits new (take kept xs) y), whole ∙ sym (cond-true fits (over new xs) xs y)),
-    )
-
--- ---- the lent part of a buffer, as the borrow checker says it
-
-pub lent-part : (xs entry kept : List ℕ) (n : ℕ) → xs ≡ over (lent n kept) entry → take (n - 0) xs ≡ lent n kept
-lent-part xs entry kept n e =
-    ap₂ (λ (m : ℕ) (x : List ℕ). take m x) (sub-zero n) e ∙ over-front (lent n kept) entry n (length-lent n kept)
-
--- what a call left of the lent part, in its buffer
-pub over-part : (xs entry kept after after' : List ℕ) (n : ℕ) → xs ≡ over (lent n kept) entry → length after ≡ length (take (n - 0) xs) → after ≡ after'
-    → after ++ drop (n - 0) xs ≡ over after' entry
-unfolding over
-over-part xs entry kept after after' n e f g =
-    let l = length-lent n kept in
-    let m : length after' ≡ n = sym (ap length g) ∙ f ∙ ap length (lent-part xs entry kept n e) ∙ l in
-    let rest : drop (n - 0) xs ≡ drop (length after') entry =
-    ap₂ (λ (i : ℕ) (x : List ℕ). drop i x) (sub-zero n) e
-    ∙ drop-at (lent n kept) (drop (length (lent n kept)) entry) n l
-    ∙ ap (λ (i : ℕ). drop i entry) (l ∙ sym m) in
-    ap₂ (λ (x y : List ℕ). x ++ y) g rest
-
--- of that, what is kept
-pub back-part : (entry after : List ℕ) (kept : ℕ) → kept ≤ length entry → length after ≤ length entry
-    → take kept (over after entry) ≡ kept-after after (take kept entry)
-unfolding over
-back-part entry after kept h k = back entry after kept (length after) h k refl
-
-pub filled-part : (xs ys : List ℕ) (b n m : ℕ) → m ≡ n → n ≤ length xs → ys ≡ repeated (length (take m xs)) b
-    → ys ++ drop m xs ≡ over (repeated n b) xs
-unfolding over
-filled-part xs ys b n m i h e =
-    let a = length-take-le m xs (omega arith) in
-    let same : ys ≡ repeated n b = e ∙ ap (λ (j : ℕ). repeated j b) (a ∙ i) in
-    ap₂ (λ (x : List ℕ) (j : ℕ). x ++ drop j xs) same (i ∙ sym (length-repeated n b))
+fill-none xs kept offset [] k z h = (refl, clean-is xs kept k z ∙ ap (lent (length xs)) (sym (written-none (take kept xs) offset)))
+fill-none xs kept offset (x ∷ bytes) k z h = absurd (omega arith)

@@ -1,20 +1,18 @@
--- What each command of a script does to an end, by what start, accept, send and receive are said to do. Assumes nothing.
+-- What the commands start, accept, send, receive and fill do to an end, by what the operations are said to do. Assumes nothing.
 use mathlib.Core.Bool.{Bool, _||_}
 use mathlib.Core.List.{List, _++_}
+use mathlib.Core.Path.{_≡_}
 use Prim.Native.Nat.{ℕ, _+_, _-_}
 use lib.Dec.{leb, eqb}
 use lib.ListN.{length, take, drop, replicate}
 use Rattle.ends.specs.State.{start}
-use Rattle.ends.specs.declared.state.End.{End}
-use Rattle.accept.specs.Accept.{accept, accept-store, flits-of}
+use Rattle.admission.specs.Admission.{flits-of}
+use Rattle.accept.specs.Accept.{accept, accept-store}
 use Rattle.send.specs.Send.{send, send-output}
 use Rattle.receive.specs.Receive.{receive, receive-hold}
 use Rattle.ticket.specs.Ticket.{Call, nothing, after}
-use Rattle.ticket.specs.declared.Ticket.{Ticket}
-use Rattle.names.specs.declared.Field.{Field}
-use Rattle.names.specs.declared.Key.{Key}
-use Rattle.pokes.specs.Pokes.{poked, with-count}
-use Rattle.sides.specs.declared.Side.{Side}
+use Rattle.settings.specs.Settings.{after-call}
+use Rattle.settings.specs.declared.Side.{Side}
 use Rattle.sides.specs.declared.Took.{Took}
 use Rattle.sides.specs.declared.Sent.{Sent}
 use Rattle.sides.specs.declared.Received.{Received}
@@ -29,15 +27,15 @@ repeated n b = replicate n b
 unfoldable pub lent : ℕ → List ℕ → List ℕ
 lent n kept = take n kept ++ repeated (n - length kept) 0
 
+-- a clean buffer: every byte past the kept ones is 0
+abbrev pub Clean : ℕ → List ℕ → Type 0
+Clean kept buffer = drop kept buffer ≡ repeated (length buffer - kept) 0
+
 -- the kept buffer after a call: what the call wrote past it is lost
 unfoldable pub kept-after : List ℕ → List ℕ → List ℕ
 kept-after after kept = take (length kept) after ++ drop (length after) kept
 
 -- ---- the operations
-
--- a side with another state and ticket
-abbrev pub after-call : Side → End → Ticket → Side
-after-call s e t = record { end = e; kept = s .kept; store = s .store; hold = s .hold; ticket = t }
 
 -- a store of so many zeros, a hold of 576 and a ticket of zeros, both buffers lent at full length
 unfoldable pub started : ℕ → Took
@@ -83,17 +81,8 @@ receives s store hold flit =
 unfoldable pub receives-hold : Side → List ℕ → List ℕ → List ℕ → List ℕ
 receives-hold s store hold flit = kept-after (receive-hold (s .end) (lent (s .store) store) (lent (s .hold) hold) flit) hold
 
--- ---- what calls no operation
-
-unfoldable pub pokes : Side → Field → ℕ → Side
-pokes s f v = after-call s (poked (s .end) f v) (s .ticket)
+-- ---- fill
 
 -- bytes all inside a store of so many
 unfoldable pub fill-fits : ℕ → ℕ → ℕ → Bool
 fill-fits kept offset bytes = eqb bytes 0 || leb (offset + bytes) kept
-
-unfoldable pub lends : Side → ℕ → ℕ → Side
-lends s store hold = record { end = s .end; kept = s .kept; store = store; hold = hold; ticket = s .ticket }
-
-unfoldable pub counts : Side → Key → ℕ → Side
-counts s k n = after-call s (s .end) (with-count (s .ticket) k n)

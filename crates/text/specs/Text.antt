@@ -5,7 +5,7 @@ use mathlib.Core.Path.{_≡_}
 use Prim.Native.Char.{code}
 use Prim.Native.String.{String, [] as no-more, _∷_ as _then_}
 use Prim.Native.Nat.{ℕ, zero, suc, _+_, _/_, _%_}
-use lib.Dec.{ltb}
+use lib.Dec.{ltb, eqb}
 use lib.ListN.{length}
 use lib.Seq.{sets}
 
@@ -26,6 +26,20 @@ digits (suc k) n = cond (ltb n 10) (digit n ∷ []) (digits k (n / 10) ++ (digit
 -- every number here is under 2 ^ 64, which has 20 digits
 abbrev pub decimal : ℕ → List ℕ
 decimal n = digits 20 n
+
+-- a key and its number
+abbrev pub field : String → ℕ → List ℕ
+field key n = ascii key ++ decimal n
+
+-- the byte `#`
+abbrev pub hash : ℕ
+hash = 35
+
+-- a form with its numbers: each hash stands for the next number, and for itself where none is left
+unfoldable pub filled : List ℕ → List ℕ → List ℕ
+filled form [] = form
+filled [] (n ∷ numbers) = []
+filled (b ∷ form) (n ∷ numbers) = cond (eqb b hash) (decimal n ++ filled form numbers) (b ∷ filled form (n ∷ numbers))
 
 -- a buffer with the bytes of a text stored in turn, from place `at` on
 unfoldable pub written : List ℕ → ℕ → List ℕ → List ℕ

@@ -1,9 +1,9 @@
 // Text into a lent buffer: bytes as they are, and numbers in decimal. Each function writes from a place on and answers the place
 // after what it wrote.
 ghost use mathlib.Core.List.{_++_};
-ghost use Prim.Native.Nat.{_+_, _≤_};
+ghost use Prim.Native.Nat.{_+_, _*_, _≤_};
 ghost use lib.ListN.{length};
-ghost use Rattle.text.specs.Text.{decimal, Puts};
+ghost use Rattle.text.specs.Text.{decimal, filled, Puts};
 
 // Writes a text.
 pub fn put(out: &mut [u8], at: usize, text: &[u8]) -> usize
@@ -40,4 +40,26 @@ pub fn put_field(out: &mut [u8], at: usize, key: &[u8], n: u64) -> usize
 {
     let number = put(out, at, key);
     put_decimal(out, number, n)
+}
+
+// Writes a form, a text in which each hash stands for the next of some numbers, and for itself where none is left. A number has at
+// most 20 digits.
+pub fn put_form(out: &mut [u8], at: usize, form: &[u8], numbers: &[u64]) -> usize
+    requires { ⌜ at + (length (now form) + 20 * length (now numbers)) ≤ length (now out) ⌝ }
+    ensures { λ r. ⌜ Puts (now (out .entry)) at (filled (now (form .entry)) (now (numbers .entry))) r (now (out .exit)) ⌝ }
+{
+    let mut next = at;
+    let mut told: usize = 0;
+    let mut i: usize = 0;
+    while i < form.len() {
+        if (form[i] == b'#') & (told < numbers.len()) {
+            next = put_decimal(out, next, numbers[told]);
+            told += 1;
+        } else {
+            out[next] = form[i];
+            next += 1;
+        }
+        i += 1;
+    }
+    next
 }

@@ -1,13 +1,13 @@
--- Laws of the ticket: what a call leaves of each count, and where a line of its text ends. Assumes nothing.
-use mathlib.Core.List.{List, _++_}
-use mathlib.Core.Path.{_≡_}
+-- Laws of the ticket: what a call leaves of each count, and its text as a form. Assumes nothing.
+use mathlib.Core.List.{List, _++_, append-assoc}
+use mathlib.Core.Path.{_≡_, ap}
 use Prim.Native.Nat.{ℕ, _+_, _≤_, _<_, _^_}
 use native.Mathlib.Omega.{arith}
-use lib.ListN.{length, length-append}
-use Rattle.text.specs.Text.{ascii, decimal, Puts}
-use Rattle.text.proofs.Laws.{length-decimal}
+use lib.ListN.{length}
+use Rattle.text.specs.Text.{ascii, decimal, filled}
+use Rattle.text.proofs.Laws.{filled-short}
 use Rattle.ticket.specs.declared.Ticket.{Ticket}
-use Rattle.ticket.specs.Ticket.{Call, counts, nothing, stopped, adds, after, text}
+use Rattle.ticket.specs.Ticket.{Call, counts, nothing, stopped, adds, after, in-order, text}
 
 -- ---- counts
 
@@ -26,22 +26,21 @@ pub unchanged-is : (t : Ticket) (c : Call) → t .accepted < 2 ^ 32 → t .deliv
     → t .downs < 2 ^ 32 → adds c ≡ nothing → t ≡ after t c
 unchanged-is t c p q v w x e = after-is t c nothing t e (omega arith) (omega arith) (omega arith) (omega arith) (omega arith)
 
--- ---- a line
+-- ---- its text
 
--- a line is no longer than its key and 21 bytes
-pub line-end : {out after : List ℕ} {at next : ℕ} (key : List ℕ) (n : ℕ) → Puts out at (key ++ decimal n ++ ascii "\n") next after
-    → next ≤ at + length key + 21
-line-end key n p = omega (arith, length-decimal n, simp length-append at (p .place))
+-- five keys, each with its number and a line feed
+five-lines : (feed a m b n c o d p e q : List ℕ)
+    → a ++ (m ++ (feed ++ (b ++ (n ++ (feed ++ (c ++ (o ++ (feed ++ (d ++ (p ++ (feed ++ (e ++ (q ++ feed)))))))))))))
+    ≡ (a ++ m ++ feed) ++ (b ++ n ++ feed) ++ (c ++ o ++ feed) ++ (d ++ p ++ feed) ++ (e ++ q ++ feed)
+five-lines feed a m b n c o d p e q = simp append-assoc
+
+abbrev text-form : List ℕ
+text-form = ascii "accepted=#\ndelivered=#\ndamaged=#\nduplicate=#\ndowns=#\n"
+
+pub text-is : (t : Ticket) → filled text-form (in-order t) ≡ text t
+unfolding filled text
+text-is t =
+    five-lines (ascii "\n") (ascii "accepted=") (decimal (t .accepted)) (ascii "delivered=") (decimal (t .delivered)) (ascii "damaged=") (decimal (t .damaged)) (ascii "duplicate=") (decimal (t .duplicate)) (ascii "downs=") (decimal (t .downs))
 
 pub text-short : (t : Ticket) → length (text t) ≤ 160
-unfolding text
-text-short t =
-    simp length-append
-    (omega (
-      arith,
-      length-decimal (t .accepted),
-      length-decimal (t .delivered),
-      length-decimal (t .damaged),
-      length-decimal (t .duplicate),
-      length-decimal (t .downs),
-    ))
+text-short t = omega (arith, filled-short text-form (in-order t), ap length (text-is t))

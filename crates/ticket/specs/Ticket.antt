@@ -5,7 +5,7 @@ use Prim.Native.Nat.{ℕ, _+_, min}
 use Prim.Native.String.{String}
 use lib.Dec.{leb}
 use lib.ListN.{length}
-use Rattle.text.specs.Text.{ascii, decimal, written}
+use Rattle.text.specs.Text.{ascii, field, written}
 use Rattle.ends.specs.declared.state.Verdict.{Verdict}
 use Rattle.ends.specs.declared.state.Verdict.the-variants as verdict
 use Rattle.answers.specs.declared.Answer.{Answer}
@@ -67,9 +67,13 @@ total count (c ∷ calls) = count (adds c) + total count calls
 
 -- ---- a ticket as text
 
+-- the counts, in the order of the lines
+abbrev pub in-order : Ticket → List ℕ
+in-order t = t .accepted ∷ t .delivered ∷ t .damaged ∷ t .duplicate ∷ t .downs ∷ []
+
 -- key=value, decimal without leading zeros, a line feed after each
 abbrev pub line : String → ℕ → List ℕ
-line key n = ascii key ++ decimal n ++ ascii "\n"
+line key n = field key n ++ ascii "\n"
 
 unfoldable pub text : Ticket → List ℕ
 text t =

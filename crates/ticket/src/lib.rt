@@ -3,11 +3,10 @@ use answers::Answer;
 use ends::state::Verdict;
 use numbers::FlitCount;
 ghost use mathlib.Core.Path.{_≡_};
-ghost use mathlib.Core.List.{_++_};
 ghost use Prim.Native.Nat.{_+_, _≤_};
 ghost use lib.ListN.{length};
-ghost use Rattle.text.specs.Text.{ascii, decimal, Puts};
-ghost use Rattle.ticket.specs.Ticket.{Call, nothing, stopped, after, text as text-of, answer-for, output};
+ghost use Rattle.text.specs.Text.{filled, Puts};
+ghost use Rattle.ticket.specs.Ticket.{Call, nothing, stopped, after, in-order, text as text-of, answer-for, output};
 
 // TL flits accepted, TL flits delivered, answers damaged, units duplicate, times gone down.
 pub struct Ticket {
@@ -23,9 +22,6 @@ pub enum Output {
     Written(usize),
     Short,
 }
-
-// The longest text of a ticket has fewer bytes.
-pub const ROOM: usize = 160;
 
 // A ticket of zeros.
 pub fn fresh() -> Ticket
@@ -115,18 +111,25 @@ pub fn put_ticket(out: &mut [u8], at: usize, t: Ticket) -> usize
     requires { ⌜ at + 160 ≤ length (now out) ⌝ }
     ensures { λ r. ⌜ Puts (now (out .entry)) at (text-of t) r (now (out .exit)) ⌝ }
 {
-    let delivered = put_line(out, at, b"accepted=", t.accepted);
-    let damaged = put_line(out, delivered, b"delivered=", t.delivered);
-    let duplicate = put_line(out, damaged, b"damaged=", t.damaged);
-    let downs = put_line(out, duplicate, b"duplicate=", t.duplicate);
-    put_line(out, downs, b"downs=", t.downs)
+    put_counts(
+        out,
+        at,
+        b"accepted=#\ndelivered=#\ndamaged=#\nduplicate=#\ndowns=#\n",
+        t,
+    )
 }
 
-// Writes a key and its number, and a line feed.
-fn put_line(out: &mut [u8], at: usize, key: &[u8], n: u32) -> usize
-    requires { ⌜ at + length (now key) + 21 ≤ length (now out) ⌝ }
-    ensures { λ r. ⌜ Puts (now (out .entry)) at (now (key .entry) ++ decimal n ++ ascii "\n") r (now (out .exit)) ⌝ }
+// Writes a form with the five counts.
+pub fn put_counts(out: &mut [u8], at: usize, form: &[u8], t: Ticket) -> usize
+    requires { ⌜ at + (length (now form) + 100) ≤ length (now out) ⌝ }
+    ensures { λ r. ⌜ Puts (now (out .entry)) at (filled (now (form .entry)) (in-order t)) r (now (out .exit)) ⌝ }
 {
-    let end = text::put_field(out, at, key, n as u64);
-    text::put(out, end, b"\n")
+    let counts = [
+        t.accepted as u64,
+        t.delivered as u64,
+        t.damaged as u64,
+        t.duplicate as u64,
+        t.downs as u64,
+    ];
+    text::put_form(out, at, form, &counts)
 }

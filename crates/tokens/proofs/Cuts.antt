@@ -1,14 +1,15 @@
 -- Laws of tokens: where the first one ends, and that the test of a word decides it. Assumes nothing.
-use mathlib.Core.Bool.{Bool, true, false, cond}
-use mathlib.Core.List.{List, [], _∷_, _++_}
-use mathlib.Core.Path.{_≡_, refl, ap, sym, _∙_}
+use mathlib.Core.Bool.{Bool, true, false, not, _&&_, cond}
+use mathlib.Core.List.{List, [], _∷_, _++_, append-nil, append-assoc}
+use mathlib.Core.Path.{_≡_, refl, ap, ap₂, sym, _∙_}
 use Prim.Native.Nat.{ℕ, suc, _+_, _-_, _≤_, _<_}
+use native.Mathlib.Nat.{sub-zero}
 use native.Mathlib.Numerals.{add-one}
 use native.Mathlib.Omega.{arith}
 use lib.Dec.{ltb, eqb}
 use lib.ListN.{length, take, drop, getD, length-drop, drop-of-length-le}
 use lib.Seq.{take-all, take-suc, drop-cons}
-use borrow.Author.Tests.{eq-eqb, eqb-true, lt-ltb, le-ltb}
+use borrow.Author.Tests.{eq-eqb, eqb-true, lt-ltb, le-ltb, ltb-false, not-true}
 use Rattle.ends.proofs.Tests.{and-l, and-r, and-true, cond-true, cond-false, cond-either}
 use Rattle.tokens.specs.Tokens.{cut, tokens, last, same}
 
@@ -51,9 +52,65 @@ tokens-more s n e h = e ∙ cond-true (ltb n (length s)) _ _ (lt-ltb n (length s
 pub tokens-one : (s : List ℕ) (n : ℕ) → first-at s n → length s ≤ n → tokens s ≡ s ∷ []
 tokens-one s n e h = e ∙ cond-false (ltb n (length s)) _ _ (le-ltb n (length s) h)
 
+split : (b : Bool) (e s : List ℕ) (ts : List (List ℕ)) → (b ≡ false → e ≡ s) → cond b (e ∷ ts) (s ∷ []) ≡ e ∷ cond b ts []
+split true e s ts h = refl
+split false e s ts h = ap (λ (l : List ℕ). l ∷ []) (sym (h refl))
+
+-- the first token stands first, whether more follow or not
+pub tokens-first : (s : List ℕ) (n : ℕ) → first-at s n
+    → tokens s ≡ take n s ∷ cond (ltb n (length s)) (tokens (drop (n + 1) s)) []
+tokens-first s n e =
+    e ∙ split (ltb n (length s)) (take n s) s (tokens (drop (n + 1) s)) (λ h. take-all n s (ltb-false n (length s) h))
+
 -- a part that goes to the end
 pub to-end : (s : List ℕ) (n : ℕ) → take (length s - n) (drop n s) ≡ drop n s
 to-end s n = take-all (length s - n) (drop n s) (omega (arith, length-drop n s))
+
+-- the first token and the rest, as code cuts them out
+pub tokens-cut : (s : List ℕ) (n : ℕ) → first-at s n → n < length s
+    → tokens s ≡ take (n - 0) s ∷ tokens (take (length s - (n + 1)) (drop (n + 1) s))
+tokens-cut s n e h =
+    tokens-more s n e h
+    ∙ ap₂ (λ (k : ℕ) (d : List ℕ). take k s ∷ tokens d) (sym (sub-zero n)) (sym (to-end s (n + 1)))
+
+-- words in a row, with a space between two, are its tokens where no word has one
+unfoldable pub row : List ℕ → List (List ℕ) → List ℕ
+row w [] = w
+row w (v ∷ vs) = w ++ (32 ∷ row v vs)
+
+unfoldable pub plain : List ℕ → Bool
+plain [] = true
+plain (c ∷ w) = not (eqb c 32) && plain w
+
+unfoldable pub all-plain : List (List ℕ) → Bool
+all-plain [] = true
+all-plain (w ∷ ws) = plain w && all-plain ws
+
+cut-byte : (token w s : List ℕ) (c : ℕ) (ts : List (List ℕ)) → plain (c ∷ w) ≡ true
+    → cut (token ++ (c ∷ [])) s ≡ ((token ++ (c ∷ [])) ++ w) ∷ ts → cut token (c ∷ s) ≡ (token ++ (c ∷ w)) ∷ ts
+unfolding plain
+cut-byte token w s c ts h e =
+    cut-other token s c (not-true (eqb c 32) (and-l (not (eqb c 32)) (plain w) h))
+    ∙ e ∙ ap (λ (l : List ℕ). l ∷ ts) (append-assoc token (c ∷ []) w)
+
+cut-word : (token w s : List ℕ) → plain w ≡ true → cut token (w ++ (32 ∷ s)) ≡ (token ++ w) ∷ tokens s
+unfolding plain
+cut-word token [] s h = rw append-nil (cut-space token s 32 refl)
+cut-word token (c ∷ w) s h =
+    cut-byte token w (w ++ (32 ∷ s)) c (tokens s) h (cut-word (token ++ (c ∷ [])) w s (and-r (not (eqb c 32)) (plain w) h))
+
+cut-last : (token w : List ℕ) → plain w ≡ true → cut token w ≡ (token ++ w) ∷ []
+unfolding plain
+cut-last token [] h = rw append-nil (cut-none token)
+cut-last token (c ∷ w) h =
+    cut-byte token w w c [] h (cut-last (token ++ (c ∷ [])) w (and-r (not (eqb c 32)) (plain w) h))
+
+pub tokens-row : (w : List ℕ) (ws : List (List ℕ)) → all-plain (w ∷ ws) ≡ true → tokens (row w ws) ≡ w ∷ ws
+unfolding row all-plain tokens
+tokens-row w [] h = cut-last [] w (and-l (plain w) true h)
+tokens-row w (v ∷ vs) h =
+    cut-word [] w (row v vs) (and-l (plain w) (all-plain (v ∷ vs)) h)
+    ∙ ap (λ (ts : List (List ℕ)). w ∷ ts) (tokens-row v vs (and-r (plain w) (all-plain (v ∷ vs)) h))
 
 -- what holds of every list that is not empty holds of tokens
 cut-some : (P : List (List ℕ) → Type 0) → ((t : List ℕ) (ts : List (List ℕ)) → P (t ∷ ts)) → (token s : List ℕ) → P (cut token s)

@@ -1,23 +1,30 @@
 -- Laws of numbers and of bytes in hexadecimal, digit by digit. Assumes nothing.
-use mathlib.Core.Bool.{Bool, true, false, _&&_}
+use mathlib.Core.Bool.{Bool, true, false, _&&_, cond}
 use mathlib.Core.List.{List, [], _∷_, _++_}
-use mathlib.Core.Path.{_≡_, refl, ap, sym, _∙_}
+use mathlib.Core.Path.{_≡_, refl, ap, ap₂, sym, _∙_}
 use Prim.Native.Nat.{ℕ, zero, suc, _+_, _-_, _*_, _/_, _%_, _≤_, _<_}
 use native.Mathlib.Omega.{arith}
 use lib.Dec.{leb, ltb, eqb}
 use lib.ListN.{length, take, drop, set, getD, length-take}
 use lib.Seq.{take-all, take-suc, drop-cons, append-snoc, set-at, take-append-seam}
-use borrow.Author.Tests.{ltb-true, lt-ltb, le-leb, lt-leb, leb-true, leb-false}
+use borrow.Author.Tests.{ltb-true, lt-ltb, le-ltb, le-leb, lt-leb, leb-true, leb-false}
 use Rattle.text.specs.Text.{ascii}
-use Rattle.ends.proofs.Tests.{and-l, and-r, and-true, and-false-l}
-use Rattle.tokens.specs.Tokens.{is-digit, all-digits, value-from, value, is-decimal, is-number, offset-value, nibble, all-hex, digit-pairs, is-bytes, pairs, same, over}
+use Rattle.ends.proofs.Tests.{and-l, and-r, and-true, and-false-l, cond-true, cond-false}
+use Rattle.tokens.specs.Tokens.{is-digit, all-digits, value-from, value, is-decimal, is-number, offset-value, nibble, all-below, all-hex, digit-pairs, is-bytes, pairs, same, over}
 use Rattle.tokens.proofs.Cuts.{same-true}
 
-and-false-r : (a b : Bool) → b ≡ false → (a && b) ≡ false
+pub and-false-r : (a b : Bool) → b ≡ false → (a && b) ≡ false
 and-false-r true b h = h
 and-false-r false b h = refl
 
 -- ---- numbers
+
+-- what is told where a test fails, and where it holds
+pub told-none : (b : Bool) (n : ℕ) → b ≡ false → (false ≡ b) × (0 ≡ cond b n 0)
+told-none b n h = (sym h, sym (cond-false b n 0 h))
+
+pub told-some : (b : Bool) (n : ℕ) → b ≡ true → (true ≡ b) × (n ≡ cond b n 0)
+told-some b n h = (sym h, sym (cond-true b n 0 h))
 
 grows : (t : List ℕ) (n : ℕ) → n ≤ value-from n t
 unfolding value-from
@@ -44,14 +51,6 @@ stops max n c t s p q e =
 pub digits-next : (c : ℕ) (s : List ℕ) → is-digit c ≡ true → all-digits (c ∷ s) ≡ all-digits s
 unfolding all-digits
 digits-next c s h = simp h
-
-pub digits-here : (c : ℕ) (s : List ℕ) → is-digit c ≡ false → all-digits (c ∷ s) ≡ false
-unfolding all-digits
-digits-here c s h = simp h
-
-pub digits-end : all-digits [] ≡ true
-unfolding all-digits
-digits-end = refl
 
 pub value-next : (n c : ℕ) (s : List ℕ) → value-from n (c ∷ s) ≡ value-from (n * 10 + (c - 48)) s
 unfolding value-from
@@ -91,19 +90,38 @@ offset-large t h d =
     let k : leb (value t) 18446744073709551615 ≡ false = simp d at h in
     omega (arith, leb-false (value t) 18446744073709551615 k)
 
+-- ---- digits below a base
+
+pub below-here : (base c : ℕ) (s : List ℕ) → ltb (nibble c) base ≡ false → all-below base (c ∷ s) ≡ false
+unfolding all-below
+below-here base c s h = simp h
+
+pub below-next : (base c : ℕ) (s : List ℕ) → ltb (nibble c) base ≡ true → all-below base (c ∷ s) ≡ all-below base s
+unfolding all-below
+below-next base c s h = simp h
+
+pub below-end : (base : ℕ) → all-below base [] ≡ true
+unfolding all-below
+below-end base = refl
+
+-- a decimal digit is one below 10
+digit-below : (c : ℕ) (d l : Bool) → is-digit c ≡ d → (leb 97 c && leb c 102) ≡ l
+    → d ≡ ltb (cond d (c - 48) (cond l (c - 87) 16)) 10
+digit-below c true l h k = sym (lt-ltb (c - 48) 10 (omega (arith, leb-true c 57 (and-r (leb 48 c) (leb c 57) h))))
+digit-below c false true h k = sym (le-ltb (c - 87) 10 (omega (arith, leb-true 97 c (and-l (leb 97 c) (leb c 102) k))))
+digit-below c false false h k = refl
+
+pub digits-below : (t : List ℕ) → all-digits t ≡ all-below 10 t
+unfolding all-digits all-below nibble
+digits-below [] = refl
+digits-below (c ∷ t) = ap₂ _&&_ (digit-below c (is-digit c) (leb 97 c && leb c 102) refl refl) (digits-below t)
+
+pub hex-below : (t : List ℕ) → all-hex t ≡ all-below 16 t
+unfolding all-hex all-below
+hex-below [] = refl
+hex-below (c ∷ t) = ap (λ (b : Bool). ltb (nibble c) 16 && b) (hex-below t)
+
 -- ---- bytes
-
-pub hex-here : (c : ℕ) (s : List ℕ) → ltb (nibble c) 16 ≡ false → all-hex (c ∷ s) ≡ false
-unfolding all-hex
-hex-here c s h = simp h
-
-pub hex-next : (c : ℕ) (s : List ℕ) → ltb (nibble c) 16 ≡ true → all-hex (c ∷ s) ≡ all-hex s
-unfolding all-hex
-hex-next c s h = simp h
-
-pub hex-end : all-hex [] ≡ true
-unfolding all-hex
-hex-end = refl
 
 pub hex-at : (t : List ℕ) (i : ℕ) → all-hex t ≡ true → i < length t → nibble (getD t i 0) < 16
 unfolding all-hex

@@ -63,6 +63,11 @@ offset-value t = min (value t) 18446744073709551615
 unfoldable pub nibble : ℕ → ℕ
 nibble c = cond (is-digit c) (c - 48) (cond (leb 97 c && leb c 102) (c - 87) 16)
 
+-- each byte is a digit below the base
+unfoldable pub all-below : ℕ → List ℕ → Bool
+all-below base [] = true
+all-below base (c ∷ t) = ltb (nibble c) base && all-below base t
+
 unfoldable pub all-hex : List ℕ → Bool
 all-hex [] = true
 all-hex (c ∷ t) = ltb (nibble c) 16 && all-hex t

@@ -5,7 +5,7 @@ ghost use mathlib.Core.Path.{_≡_};
 ghost use Prim.Native.Nat.{_+_, _-_, _*_, _≤_};
 ghost use lib.Dec.{leb};
 ghost use lib.ListN.{length};
-ghost use Rattle.tokens.specs.Tokens.{is-digit, value, all-digits, is-decimal, is-number, offset-value, nibble as nibble-of, all-hex, digit-pairs, is-bytes, pairs, over};
+ghost use Rattle.tokens.specs.Tokens.{is-digit, value, all-below, is-decimal, is-number, offset-value, nibble as nibble-of, all-hex, digit-pairs, is-bytes, pairs, over};
 
 // A number that a token says, or 0 where it says none.
 pub struct Parsed {
@@ -84,7 +84,7 @@ pub fn offset(token: &[u8]) -> Parsed
     if n.ok {
         return n;
     }
-    if (0 < token.len()) & are_decimal(token) {
+    if (0 < token.len()) & are_digits(token, 10) {
         Parsed {
             value: u64::MAX,
             ok: true,
@@ -95,20 +95,6 @@ pub fn offset(token: &[u8]) -> Parsed
             ok: false,
         }
     }
-}
-
-fn are_decimal(token: &[u8]) -> bool
-    ensures { λ r. ⌜ r ≡ all-digits (now (token .entry)) ⌝ }
-{
-    let mut i = 0;
-    while i < token.len() {
-        let c = token[i];
-        if !((48 <= c) & (c <= 57)) {
-            return false;
-        }
-        i += 1;
-    }
-    true
 }
 
 // How many bytes a token says in hexadecimal, or 0 where it says none.
@@ -145,15 +131,16 @@ fn are_pairs(hex: &[u8]) -> bool
     ensures { λ r. ⌜ r ≡ digit-pairs (now (hex .entry)) ⌝ }
 {
     let digits = hex.len();
-    (0 < digits) & (digits % 2 == 0) & (digits <= 4000) & are_digits(hex)
+    (0 < digits) & (digits % 2 == 0) & (digits <= 4000) & are_digits(hex, 16)
 }
 
-fn are_digits(hex: &[u8]) -> bool
-    ensures { λ r. ⌜ r ≡ all-hex (now (hex .entry)) ⌝ }
+// Whether each byte is a digit below the base, which is 10 or 16.
+fn are_digits(token: &[u8], base: u8) -> bool
+    ensures { λ r. ⌜ r ≡ all-below base (now (token .entry)) ⌝ }
 {
     let mut i = 0;
-    while i < hex.len() {
-        if 15 < nibble(hex[i]) {
+    while i < token.len() {
+        if base <= nibble(token[i]) {
             return false;
         }
         i += 1;

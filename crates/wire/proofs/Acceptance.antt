@@ -21,14 +21,15 @@ use Rattle.ends.specs.declared.state.Mode.{Mode as KeptMode}
 use Rattle.ends.specs.declared.state.Mode.the-variants.{Run, Wait, Down}
 use Rattle.ends.specs.declared.state.Verdict.{Verdict}
 use Rattle.ends.proofs.Tests.{cond-false, cond-either}
+use Rattle.admission.specs.Admission as admission
 use Rattle.accept.specs.Accept as accept
 use Rattle.arrivals.specs.Arrivals.{holds, damaged, skips, newly-covered, past-sent, behind, checked}
 use Rattle.answers.specs.Answers.{half, replay-answer, plain-answer, run-answer, wait-answer, mode-answer, refusal-number}
 use Rattle.answers.specs.declared.Answer.{Answer}
 use Rattle.answers.specs.declared.Answer.the-variants as answer
 use Rattle.receive.specs.Receive as receive
-use Rattle.link.specs.Stream.{Stream, first, Flit, part, control, idle, replay}
-use Rattle.link.specs.End.{run}
+use Rattle.link.proofs.Stream.{Stream, first, Flit, part, control, idle, replay}
+use Rattle.link.proofs.End.{run}
 use Rattle.link.proofs.Chain.{final, Grows, grows}
 use Rattle.link.proofs.Inv.{At}
 use Rattle.wire.specs.System.{System, Lent, begin, on-the-way, oldest-flit, turned, Event, Fair}
@@ -69,21 +70,21 @@ other-3 = record { not-1 = λ h. omega arith; not-2 = λ h. omega arith; not-5 =
 over-5 : (n : ℕ) → 5 < n → Other n
 over-5 n h = record { not-1 = λ e. omega arith; not-2 = λ e. omega arith; not-5 = λ e. omega arith }
 
-accept-other : (q : KeptEnd) (store unit : List ℕ) → Fine q store → Other (verdict-number (accept.verdict q store unit))
-unfolding accept.verdict
+accept-other : (q : KeptEnd) (store unit : List ℕ) → Fine q store → Other (verdict-number (admission.verdict q store unit))
+unfolding admission.verdict
 accept-other q store unit f =
     subst (λ (v : Verdict). Other (verdict-number v))
     (sym
     (cond-false (not (store-is q (length store))) _ _ (ap not (f .store-ok))
     ∙ cond-false (not (sound q store)) _ _ (ap not (f .state-ok))))
-    (cond-either (λ (v : Verdict). Other (verdict-number v)) (not (accept.unit-shaped (length unit))) _ _ (λ h. other-3)
+    (cond-either (λ (v : Verdict). Other (verdict-number v)) (not (admission.unit-shaped (length unit))) _ _ (λ h. other-3)
     (λ h3.
     subst (λ (v : Verdict). Other (verdict-number v)) (sym (cond-false (is-down (q .mode)) _ _ (f .up)))
-    (cond-either (λ (v : Verdict). Other (verdict-number v)) (not (eqb (accept.flits-of unit - 1) (last-run q store))) _ _ (λ h. over-5 6 (omega arith))
+    (cond-either (λ (v : Verdict). Other (verdict-number v)) (not (eqb (admission.flits-of unit - 1) (last-run q store))) _ _ (λ h. over-5 6 (omega arith))
     (λ h5.
-    cond-either (λ (v : Verdict). Other (verdict-number v)) (not (Rattle.flits.specs.Fields.acceptable (accept.control-of unit))) _ _ (λ h. over-5 7 (omega arith))
+    cond-either (λ (v : Verdict). Other (verdict-number v)) (not (Rattle.flits.specs.Fields.acceptable (admission.control-of unit))) _ _ (λ h. over-5 7 (omega arith))
     (λ h6.
-    cond-either (λ (v : Verdict). Other (verdict-number v)) (ltb (q .capacity .0) (q .held .0 + accept.flits-of unit)) _ _ (λ h. over-5 8 (omega arith))
+    cond-either (λ (v : Verdict). Other (verdict-number v)) (ltb (q .capacity .0) (q .held .0 + admission.flits-of unit)) _ _ (λ h. over-5 8 (omega arith))
     (λ h7. other-0))))))
 
 -- what is answered in mode run and in mode wait is no refusal

@@ -14,7 +14,7 @@ use lib.Seq.{take-at, drop-at, take-append-add, take-append-le, getD-append-add}
 use Rattle.compose.specs.Flits.{bare-control}
 use Rattle.ends.specs.Ring.{flit-at}
 use Rattle.ends.proofs.Tests.{and-false-l, cond-true, cond-false}
-use Rattle.link.specs.Stream.{Stream, first, Flit, Item, part, control, idle, replay}
+use Rattle.link.proofs.Stream.{Stream, first, Flit, Item, part, control, idle, replay}
 use Rattle.link.proofs.Chain.{Chain, after, final, Wire, Fits}
 use Rattle.link.proofs.Clean.{Straight, Goes}
 use Rattle.wire.specs.System.{Passage, arriving}

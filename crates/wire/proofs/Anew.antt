@@ -24,12 +24,13 @@ use Rattle.answers.specs.Answers.{half, replay-answer}
 use Rattle.answers.specs.declared.Answer.{Answer}
 use Rattle.answers.specs.declared.Answer.the-variants as answer
 use Rattle.acknowledge.specs.Acknowledge.{sent-anew, acknowledged}
-use Rattle.effects.specs.Effects.{waiting, discarded, informed, replay-taken, ahead-in, end-after}
+use Rattle.taken.specs.Taken.{informed, replay-taken}
+use Rattle.effects.specs.Effects.{waiting, discarded, ahead-in, end-after}
 use Rattle.receive.specs.Receive.{hold-after}
-use Rattle.link.specs.Stream.{Stream, owed, num, replay}
-use Rattle.link.specs.End.{Mode, run, wait, down, End}
-use Rattle.link.specs.Step
-use Rattle.link.specs.Step.{item, again, more, enough, replayed, ahead-run, ahead-wait, discards}
+use Rattle.link.proofs.Stream.{Stream, owed, num, replay}
+use Rattle.link.proofs.End.{Mode, run, wait, down, End}
+use Rattle.link.proofs.Step
+use Rattle.link.proofs.Step.{item, again, more, enough, replayed, ahead-run, ahead-wait, discards}
 use Rattle.link.proofs.Num.{num-le, num-lt}
 use Rattle.link.proofs.Chain.{Chain}
 use Rattle.link.proofs.Inv.{Local}

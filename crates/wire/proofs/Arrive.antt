@@ -27,12 +27,13 @@ use Rattle.answers.specs.declared.Answer.{Answer}
 use Rattle.answers.specs.declared.Answer.the-variants as answer
 use Rattle.acknowledge.specs.Acknowledge.{sent-anew, acknowledged}
 use Rattle.receive.specs.Receive
-use Rattle.effects.specs.Effects.{waiting, discarded, idled, closed, delivered, end-after}
+use Rattle.taken.specs.Taken.{idled, closed, delivered}
+use Rattle.effects.specs.Effects.{waiting, discarded, end-after}
 use Rattle.receive.specs.Receive.{hold-after}
-use Rattle.link.specs.Stream.{Stream, owed, num, some, Flit, Item, part, control, idle, replay}
-use Rattle.link.specs.End.{run, wait, Receiver, End}
-use Rattle.link.specs.Step
-use Rattle.link.specs.Step.{item, again, more, enough, Receive, holds as holds-step, delivers, repeats, idling, damaged as damaged-step, discards}
+use Rattle.link.proofs.Stream.{Stream, owed, num, some, Flit, Item, part, control, idle, replay}
+use Rattle.link.proofs.End.{run, wait, Receiver, End}
+use Rattle.link.proofs.Step
+use Rattle.link.proofs.Step.{item, again, more, enough, Receive, holds as holds-step, delivers, repeats, idling, damaged as damaged-step, discards}
 use Rattle.link.proofs.Num.{num-le}
 use Rattle.link.proofs.Chain.{Chain, Rest}
 use Rattle.link.proofs.Inv.{Local, Runs, At, Head}

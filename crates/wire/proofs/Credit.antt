@@ -15,15 +15,15 @@ use Rattle.ends.specs.Refusals.{cursor-at, acknowledged-at}
 use Rattle.ends.specs.declared.state.End.{End}
 use Rattle.ends.proofs.Tests.{cond-true, cond-false}
 use Rattle.acknowledge.specs.Acknowledge.{freed-by, freed, sent-anew, acknowledged}
-use Rattle.link.specs.Stream.{Stream, owed, num}
-use Rattle.link.specs.End.{Sender}
-use Rattle.link.specs.Step
-use Rattle.link.specs.Step.{Acked, keeps, passes, again}
+use Rattle.link.proofs.Stream.{Stream, owed, num}
+use Rattle.link.proofs.End.{Sender}
+use Rattle.link.proofs.Step
+use Rattle.link.proofs.Step.{Acked, keeps, passes, again}
 use Rattle.link.proofs.Num.{num-le, num-lt, num-of-le}
 use Rattle.link.proofs.Inv.{Local}
 use Rattle.wire.proofs.Places.{place-lt, place-place}
 use Rattle.wire.proofs.Wrap.{wrap, most, after-wrap}
-use Rattle.wire.proofs.Stands.{Stands, Formed, flit-of, off, at-cursor, at-acknowledged, walk-at, borders-in, Within, unit-of}
+use Rattle.wire.proofs.Stands.{restand, goes-on, Stands, Formed, flit-of, off, at-cursor, at-acknowledged, walk-at, borders-in, Within, unit-of}
 
 -- the receiver's half stays
 pub record Same (q p : End) : Type 0 where
@@ -45,40 +45,11 @@ pub record Credited (f : Stream) (store : List ℕ) (s : Sender) (a : ℕ) (q p 
 -- replay is pending
 pub pending-stands : (f : Stream) (store : List ℕ) (s : Sender) (q : End) → Stands f store s q → Stands f store (again s) (with-pending true q)
 pending-stands f store s q h =
-    record {
-      least = h .least;
-      size = h .size;
-      most = h .most;
-      room = h .room;
-      base = h .base;
-      acked = h .acked;
-      cursor = h .cursor;
-      sent = h .sent;
-      held = h .held;
-      kept = h .kept;
-      pending = refl;
-      first = h .first;
-      ring = h .ring;
-    }
+    restand f store (again s) _ _ refl (goes-on f store s q (s .cursor) (q .cursor .0) true (h .cursor) h)
 
 -- the cursor at the oldest unit, and replay pending
 pub anew-stands : (f : Stream) (store : List ℕ) (s : Sender) (q : End) → Stands f store s q → Stands f store (Step.nacked true s) (sent-anew true q)
-anew-stands f store s q h =
-    record {
-      least = h .least;
-      size = h .size;
-      most = h .most;
-      room = h .room;
-      base = h .base;
-      acked = h .acked;
-      cursor = h .base;
-      sent = h .sent;
-      held = h .held;
-      kept = h .kept;
-      pending = refl;
-      first = h .first;
-      ring = h .ring;
-    }
+anew-stands f store s q h = goes-on f store s q (s .oldest) (q .oldest .0) true (h .base) h
 
 pub nacked-stands : (f : Stream) (store : List ℕ) (s : Sender) (q : End) (na : Bool) → Stands f store s q → Stands f store (Step.nacked na s) (sent-anew na q)
 nacked-stands f store s q true h = anew-stands f store s q h

@@ -23,13 +23,15 @@ use Rattle.ends.specs.Refusals.{cursor-at, sent-at, previous-run}
 use Rattle.ends.specs.Update.{with-untold, with-pending}
 use Rattle.ends.specs.declared.state.End.{End as KeptEnd}
 use Rattle.ends.proofs.Tests.{cond-true, cond-false, cond-either}
-use Rattle.burst.specs.Burst as sending
+use Rattle.moves.specs.Moves as sending
 use Rattle.units.specs.Units.{stored-flits, control-at-cursor, unit-sent}
-use Rattle.burst.specs.Burst.{fallen, replay-sent, unit-at-cursor, burst, burst-flits, past-unit}
-use Rattle.link.specs.Stream.{Block, Stream, owed, num, some, Item, control, idle, replay}
-use Rattle.link.specs.End.{Mode, run, wait, down, End}
-use Rattle.link.specs.Step
-use Rattle.link.specs.Step.{item, is-waiting, tell, told, Send, replays, alone, idles}
+use Rattle.moves.specs.Moves.{fallen, unit-at-cursor, past-unit}
+use Rattle.replays.specs.Replays.{replay-sent}
+use Rattle.burst.specs.Burst.{burst, burst-flits}
+use Rattle.link.proofs.Stream.{Block, Stream, owed, num, some, Item, control, idle, replay}
+use Rattle.link.proofs.End.{Mode, run, wait, down, End}
+use Rattle.link.proofs.Step
+use Rattle.link.proofs.Step.{item, is-waiting, tell, told, Send, replays, alone, idles}
 use Rattle.link.proofs.Num.{num-le, num-lt}
 use Rattle.link.proofs.Chain.{Chain, after as chain-after}
 use Rattle.link.proofs.Inv.{Local, Tail}
@@ -37,7 +39,7 @@ use Rattle.wire.specs.Damage.{Arrives, one, units-of}
 use Rattle.wire.specs.System.{Passage, passing, ArriveAll}
 use Rattle.wire.proofs.Pieces.{joined, joined-snoc}
 use Rattle.wire.proofs.Wrap.{meaning, wrap, most, after-wrap}
-use Rattle.wire.proofs.Stands.{restand, Stands, Taken, Formed, owed-le, at-cursor, at-sent, walk-at, body-at}
+use Rattle.wire.proofs.Stands.{restand, goes-on, Stands, Taken, Formed, owed-le, at-cursor, at-sent, walk-at, body-at}
 use Rattle.wire.proofs.Says.{Flight, ReadsAll, mode-of, Kept}
 use Rattle.wire.proofs.Makes.{spread, flights, flits, Sized, pieces, length-pieces, damage-size, right-same, unit-reads, made-size, made-bytes, made-right, made-says, made-parts, made-alone, made-no-replay, made-unit, alone-reads, idle-comes, replay-of, replay-comes}
 
@@ -182,22 +184,7 @@ module _ (Ok : Bool → Type 0) (f g : Stream) (store hold : List ℕ) (handed :
         (r .size, omega (arith, r .is-replay), r .right-alone)
 
     told-stands : Stands f store (told (e .s)) (with-untold 0 (with-pending false q))
-    told-stands =
-        record {
-          least = h .least;
-          size = h .size;
-          most = h .most;
-          room = h .room;
-          base = h .base;
-          acked = h .acked;
-          cursor = h .cursor;
-          sent = h .sent;
-          held = h .held;
-          kept = h .kept;
-          pending = refl;
-          first = h .first;
-          ring = h .ring;
-        }
+    told-stands = restand f store (told (e .s)) _ _ refl (goes-on f store (e .s) q (e .s .cursor) (q .cursor .0) false (h .cursor) h)
 
     replay-size : (x : List ℕ) → Arrives replay-here x → length x ≡ 64
     replay-size x d = damage-size replay-here x (d .damage) ∙ replay-fields .0

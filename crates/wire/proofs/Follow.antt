@@ -16,9 +16,9 @@ use Rattle.ends.proofs.Tests.{and-true, and-false-l, cond-true, cond-false}
 use Rattle.arrivals.specs.Arrivals.{holds, closes, checked, damaged, skips}
 use Rattle.answers.specs.Answers.{replay-answer, run-answer, wait-answer, mode-answer}
 use Rattle.answers.specs.declared.Answer.{Answer}
-use Rattle.link.specs.Stream.{Stream, owed, Flit, Item, part, control, idle, replay}
-use Rattle.link.specs.End.{Mode, run, wait, down, End}
-use Rattle.link.specs.Step.{item}
+use Rattle.link.proofs.Stream.{Stream, owed, Flit, Item, part, control, idle, replay}
+use Rattle.link.proofs.End.{Mode, run, wait, down, End}
+use Rattle.link.proofs.Step.{item}
 use Rattle.link.proofs.Chain.{Chain, Rest}
 use Rattle.link.proofs.Inv.{Runs, At, Head}
 use Rattle.link.proofs.Receive.{Given}
@@ -55,17 +55,17 @@ module _ (f g : Stream) (store : List ℕ) (e : End) (d : Chain) (q : KeptEnd) (
     runs : Head g d e → e .r .mode ≡ run → Runs g d (e .s .acked) (e .r)
     runs = Arrive.runs f g store e d q hold handed fo st k small
 
-    alone-of : Runs g d (e .s .acked) (e .r) → Rest g d → Rattle.link.specs.Step.Alone (e .r)
+    alone-of : Runs g d (e .s .acked) (e .r) → Rest g d → Rattle.link.proofs.Step.Alone (e .r)
     alone-of = Arrive.alone-of f g store e d q hold handed fo st k small
 
-    alone-holds : Rattle.link.specs.Step.Alone (e .r) → holds q ≡ false
+    alone-holds : Rattle.link.proofs.Step.Alone (e .r) → holds q ≡ false
     alone-holds z =
         Looks.holds-rest q (Arrive.none-gathered f g store e d q hold handed fo st k small (z .0)) (Arrive.rest-bit f g store e d q hold handed fo st k small (z .1))
 
-    alone-closes : Rattle.link.specs.Step.Alone (e .r) → closes q ≡ false
+    alone-closes : Rattle.link.proofs.Step.Alone (e .r) → closes q ≡ false
     alone-closes z = Looks.closes-rest q (Arrive.rest-bit f g store e d q hold handed fo st k small (z .1))
 
-    alone-looked : (x : List ℕ) → Rattle.link.specs.Step.Alone (e .r) → looked x ≡ x
+    alone-looked : (x : List ℕ) → Rattle.link.proofs.Step.Alone (e .r) → looked x ≡ x
     alone-looked x z = cond-false (closes q) _ _ (alone-closes z)
 
     -- a closing flit
@@ -86,7 +86,7 @@ module _ (f g : Stream) (store : List ℕ) (e : End) (d : Chain) (q : KeptEnd) (
         closing = ap right full-looked ∙ h .right-is
 
     -- a right replay flit in mode run
-    to-replay : (x : List ℕ) → fields-of x .run .0 ≡ replay-run → Rattle.link.specs.Step.Alone (e .r) → run-answer q (fields-of x) true ≡ replay-answer q (fields-of x)
+    to-replay : (x : List ℕ) → fields-of x .run .0 ≡ replay-run → Rattle.link.proofs.Step.Alone (e .r) → run-answer q (fields-of x) true ≡ replay-answer q (fields-of x)
     unfolding run-answer
     to-replay x ru z =
         cond-false (holds q) _ _ (alone-holds z)

@@ -22,15 +22,16 @@ use Rattle.ends.specs.declared.state.Verdict.{Verdict}
 use Rattle.ends.specs.declared.state.Verdict.the-variants.{Refused, Admitted}
 use Rattle.ends.proofs.Tests.{and-true, cond-true, cond-false}
 use Rattle.accept.specs.Accept as accept
+use Rattle.moves.specs.Moves as moving
 use Rattle.burst.specs.Burst as sending
 use Rattle.send.specs.Send as send
 use Rattle.arrivals.specs.Arrivals.{checked}
 use Rattle.answers.specs.Answers.{mode-answer}
 use Rattle.effects.specs.Effects as effects
 use Rattle.receive.specs.Receive as receive
-use Rattle.link.specs.Stream.{Stream, owed, num, first, Item}
-use Rattle.link.specs.End.{Mode, run, wait, down, Sender, End}
-use Rattle.link.specs.Step
+use Rattle.link.proofs.Stream.{Stream, owed, num, first, Item}
+use Rattle.link.proofs.End.{Mode, run, wait, down, Sender, End}
+use Rattle.link.proofs.Step
 use Rattle.link.proofs.Num.{num-le}
 use Rattle.link.proofs.Chain.{Chain, after, final, Grows, grows, final-append, step-hi}
 use Rattle.link.proofs.Inv.{At, Inv}
@@ -328,7 +329,7 @@ module _ (x y : Bool) (f g : Stream) (s : System) (j : Joint x y f g s) where
         (sym (ap (λ (us : List (List ℕ)). s .ab .passages ++ passing us arrivals) no-units ∙ append-nil (s .ab .passages))) j
 
     em : Emitted (kind x) f g store (s .a .hold) (s .a .handed) (j .e) q (j .inv .own) (j .left .stands) (j .left .kept) (j .left .formed) (final (j .c) (j .l))
-        (j .inv .to .tail) live errors information small-errors small-information burst (sending.burst-flits q n) (sending.moved q n)
+        (j .inv .to .tail) live errors information small-errors small-information burst (sending.burst-flits q n) (moving.moved q n)
     em =
         emits-all (kind x) f g store (s .a .hold) (s .a .handed) (j .e) q (j .inv .own) (j .left .stands) (j .left .kept) (j .left .formed) (final (j .c) (j .l))
         (j .inv .to .tail) live errors information small-errors small-information
@@ -336,10 +337,10 @@ module _ (x y : Bool) (f g : Stream) (s : System) (j : Joint x y f g s) where
     wrote : flits-by Admitted ≡ burst
     wrote = take-at burst (drop (length burst) output) (sending.burst-flits q n * 64) (em .size)
 
-    goes : (ps : List Passage) → Sends (kind x) f g store (s .a .hold) (s .a .handed) (j .e) (final (j .c) (j .l)) ps (sending.moved q n)
+    goes : (ps : List Passage) → Sends (kind x) f g store (s .a .hold) (s .a .handed) (j .e) (final (j .c) (j .l)) ps (moving.moved q n)
         → Joint x y f g
         (record {
-          a = record { end = sending.moved q n; store = store; hold = s .a .hold; accepted = s .a .accepted; handed = s .a .handed };
+          a = record { end = moving.moved q n; store = store; hold = s .a .hold; accepted = s .a .accepted; handed = s .a .handed };
           b = s .b;
           ab = put ps (s .ab);
           ba = s .ba;
@@ -397,7 +398,7 @@ module _ (x y : Bool) (f g : Stream) (s : System) (j : Joint x y f g s) where
     admits a o =
         subst (λ (fs : List ℕ). Joint x y f g
         (record {
-          a = record { end = sending.moved q n; store = store; hold = s .a .hold; accepted = s .a .accepted; handed = s .a .handed };
+          a = record { end = moving.moved q n; store = store; hold = s .a .hold; accepted = s .a .accepted; handed = s .a .handed };
           b = s .b;
           ab = put (passing (units-of fs) arrivals) (s .ab);
           ba = s .ba;

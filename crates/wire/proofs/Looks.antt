@@ -12,7 +12,7 @@ use Rattle.flits.specs.declared.Fields.{Fields}
 use Rattle.ends.specs.declared.state.End.{End}
 use Rattle.ends.proofs.Tests.{and-true, and-false-l, cond-true, cond-false}
 use Rattle.arrivals.specs.Arrivals.{holds, closes, run-wrong, stall-wrong, straddles, damaged, skips, behind}
-use Rattle.link.specs.Stream.{some}
+use Rattle.link.proofs.Stream.{some}
 use Rattle.wire.proofs.Tests.{and-false-r}
 
 -- every test of several is no

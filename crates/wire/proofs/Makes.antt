@@ -25,8 +25,8 @@ use Rattle.flits.proofs.Laws.{append-bytes}
 use Rattle.compose.proofs.RoundTrip.{idle-read, replay-read, ControlRead, control-sealed, control-told-size, control-told-bytes}
 use Rattle.ends.specs.Ring.{flit-at}
 use Rattle.ends.proofs.Tests.{and-false-l, and-true}
-use Rattle.link.specs.Stream.{Block, Stream, num, part, control, idle, replay}
-use Rattle.link.specs.Step.{item, carried}
+use Rattle.link.proofs.Stream.{Block, Stream, num, part, control, idle, replay}
+use Rattle.link.proofs.Step.{item, carried}
 use Rattle.link.proofs.Chain.{Chain, after}
 use Rattle.wire.specs.Damage.{window-bits, Damage, unaltered, odd-bits, near-bits, reads-replay, sent-replay, Arrives}
 use Rattle.wire.specs.System.{Passage}

@@ -21,11 +21,12 @@ use Rattle.ends.specs.declared.state.Refusal.{Refusal}
 use Rattle.ends.specs.declared.state.Verdict.{Verdict}
 use Rattle.ends.specs.declared.state.Verdict.the-variants.{Refused, Admitted}
 use Rattle.ends.proofs.Tests.{and-l, and-r, cond-either}
-use Rattle.accept.specs.Accept.{unit-shaped, flits-of, control-of, verdict, written}
-use Rattle.link.specs.Stream.{Block, Stream, owed, num}
-use Rattle.link.specs.End.{Sender}
-use Rattle.link.specs.Step
-use Rattle.link.specs.Step.{Room}
+use Rattle.admission.specs.Admission.{unit-shaped, flits-of, control-of, verdict}
+use Rattle.accept.specs.Accept.{written}
+use Rattle.link.proofs.Stream.{Block, Stream, owed, num}
+use Rattle.link.proofs.End.{Sender}
+use Rattle.link.proofs.Step
+use Rattle.link.proofs.Step.{Room}
 use Rattle.link.proofs.Num.{num-le}
 use Rattle.link.proofs.Inv.{Local}
 use Rattle.wire.proofs.Pieces.{cut, length-cut, flits-cut, joined-cut, getD-cut, flit-size, flit-bytes, flit-put-same, flit-put-other, put-size, put-bytes}

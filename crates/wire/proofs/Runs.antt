@@ -16,8 +16,8 @@ use Rattle.ends.specs.declared.state.Verdict.{Verdict}
 use Rattle.ends.specs.declared.state.Verdict.the-variants.{Refused, Admitted}
 use Rattle.ends.proofs.Tests.{and-true, cond-true}
 use Rattle.accept.specs.Accept as accept
-use Rattle.link.specs.Stream.{Stream}
-use Rattle.link.specs.End as link
+use Rattle.link.proofs.Stream.{Stream}
+use Rattle.link.proofs.End as link
 use Rattle.link.proofs.Begin.{zero-chain, begins}
 use Rattle.wire.specs.Damage.{Arrives, units-of}
 use Rattle.wire.specs.System.{Passage, System, Lent, fresh-side, begin, with-accepted, flits-sent, passing, on-the-way, Call, accepts, sends, receives, calls, turned, Event, of-a, of-b, step, run, Given, Takes, Fair}

@@ -14,8 +14,8 @@ use Rattle.ends.specs.Ring.{flit-at}
 use Rattle.ends.specs.declared.state.End.{End}
 use Rattle.ends.specs.declared.state.Mode.{Mode as KeptMode}
 use Rattle.ends.specs.declared.state.Mode.the-variants.{Run, Wait, Down}
-use Rattle.link.specs.Stream.{Block, Stream, owed, num, Flit, Item, part, control, idle, replay}
-use Rattle.link.specs.End.{Mode, run, wait, down, Receiver}
+use Rattle.link.proofs.Stream.{Block, Stream, owed, num, Flit, Item, part, control, idle, replay}
+use Rattle.link.proofs.End.{Mode, run, wait, down, Receiver}
 use Rattle.link.proofs.Chain.{Chain, after, final}
 use Rattle.wire.specs.Damage.{reads-replay}
 use Rattle.wire.specs.Theorem.{is-unit}

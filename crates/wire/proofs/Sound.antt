@@ -13,8 +13,8 @@ use Rattle.ends.specs.Ring.{walked}
 use Rattle.ends.specs.Refusals.{cursor-at, sent-at, acknowledged-at, store-is, counts-sound, numbers-sound, units-sound, sound}
 use Rattle.ends.specs.declared.state.End.{End as KeptEnd}
 use Rattle.ends.proofs.Tests.{and-true, cond-true, cond-false}
-use Rattle.link.specs.Stream.{Stream, owed, num}
-use Rattle.link.specs.End.{Sender, Receiver}
+use Rattle.link.proofs.Stream.{Stream, owed, num}
+use Rattle.link.proofs.End.{Sender, Receiver}
 use Rattle.link.proofs.Num.{num-le}
 use Rattle.link.proofs.Inv.{Local}
 use Rattle.link.proofs.Tidy.{Tidy, Framed}

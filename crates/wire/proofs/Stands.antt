@@ -17,13 +17,14 @@ use Rattle.flits.specs.Fields.{content, run-length, acceptable, fields-of}
 use Rattle.compose.proofs.RoundTrip.{acceptable-is}
 use Rattle.ends.specs.Ring.{flit-at, place, stored, begun, walk, walked}
 use Rattle.ends.specs.Refusals.{cursor-at, sent-at, acknowledged-at}
+use Rattle.ends.specs.Update.{with-cursor, with-pending}
 use Rattle.ends.specs.declared.state.End.{End}
 use Rattle.ends.specs.declared.walk.Walk.{Walk}
 use Rattle.ends.proofs.Tests.{and-true, cond-true, cond-false}
 use Rattle.ends.proofs.Walks.{inside, next-border}
 use Rattle.acknowledge.specs.Acknowledge.{last-border}
-use Rattle.link.specs.Stream.{Block, Stream, owed, num}
-use Rattle.link.specs.End.{Sender}
+use Rattle.link.proofs.Stream.{Block, Stream, owed, num}
+use Rattle.link.proofs.End.{Sender}
 use Rattle.link.proofs.Num.{num-le}
 use Rattle.link.proofs.Inv.{Local}
 use Rattle.wire.proofs.Pieces.{Flits, joined}
@@ -115,6 +116,27 @@ restand f store s p p′ z h =
       pending = ap (λ (v : Sending). v .pending) z ∙ h .pending;
       first = rw (first, capacity) (h .first);
       ring = λ i j a b c. ap₂ (λ (n m : ℕ). flit-at store (place n m (num f i + j - num f (s .oldest)))) capacity first ∙ h .ring i j a b c;
+    }
+
+-- only the cursor moves, and whether replay is pending
+pub goes-on : (f : Stream) (store : List ℕ) (s : Sender) (q : End) (unit x : ℕ) (pending : Bool) → x ≡ wrap (num f unit) → Stands f store s q
+    → Stands f store (record { accepted = s .accepted; oldest = s .oldest; cursor = unit; sent = s .sent; acked = s .acked; pending = pending })
+    (with-cursor x (with-pending pending q))
+goes-on f store s q unit x pending at h =
+    record {
+      least = h .least;
+      size = h .size;
+      most = h .most;
+      room = h .room;
+      base = h .base;
+      acked = h .acked;
+      cursor = at;
+      sent = h .sent;
+      held = h .held;
+      kept = h .kept;
+      pending = refl;
+      first = h .first;
+      ring = h .ring;
     }
 
 -- on the border before a unit of n data flits

@@ -6,11 +6,12 @@ use mathlib.Core.Logic.{_≢_}
 use mathlib.Core.List.{List, [], _∷_, _++_, map}
 use Prim.Native.Nat.{ℕ, suc, _+_, _-_, _*_, _/_, _≤_}
 use lib.Dec.{ltb, leb, eqb}
-use lib.ListN.{length, take, drop}
+use lib.ListN.{length, take}
 use Rattle.flits.specs.Fields.{fields-of}
 use Rattle.compose.specs.Flits.{bare-control}
 use Rattle.ends.specs.State.{verdict-number}
 use Rattle.ends.specs.Refusals.{is-down}
+use Rattle.admission.specs.Admission.{control-of}
 use Rattle.accept.specs.Accept.{accept}
 use Rattle.send.specs.Send.{verdict}
 use Rattle.answers.specs.declared.Answer.the-variants as answer
@@ -26,7 +27,7 @@ pub record FirstPart (xs ys : List (List ℕ)) : Type 0 where
 
 -- a unit as it is handed on: its control flit, the last, with bits 63:18 zero
 unfoldable pub as-handed : List ℕ → List ℕ
-as-handed unit = take (length unit - 64) unit ++ bare-control (drop (length unit - 64) unit)
+as-handed unit = take (length unit - 64) unit ++ bare-control (control-of unit)
 
 -- a unit of the transaction layer, which has data or a control flit's run length
 unfoldable pub is-unit : List ℕ → Bool

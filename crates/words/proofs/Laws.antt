@@ -1,7 +1,9 @@
 -- How long the words are. Assumes nothing.
-use Prim.Native.Nat.{_≤_}
+use mathlib.Core.List.{List}
+use mathlib.Core.Path.{_≡_, ap}
+use Prim.Native.Nat.{ℕ, _≤_}
 use native.Mathlib.Omega.{arith}
-use lib.ListN.{length}
+use lib.ListN.{length, take, length-take}
 use Rattle.ends.specs.declared.state.Mode.{Mode}
 use Rattle.ends.specs.declared.state.Mode.the-variants as mode
 use Rattle.answers.specs.declared.Answer.{Answer}
@@ -9,7 +11,6 @@ use Rattle.answers.specs.declared.Answer.the-variants as answer
 use Rattle.words.specs.Words.{answer-word, mode-word}
 
 pub answer-short : (a : Answer) → length (answer-word a) ≤ 9
-unfolding answer-word
 answer-short (answer.Refused r) = omega arith
 answer-short answer.Held = omega arith
 answer-short (answer.Delivered n) = omega arith
@@ -23,7 +24,10 @@ answer-short answer.Discarded = omega arith
 answer-short (answer.Down cause) = omega arith
 
 pub mode-short : (m : Mode) → length (mode-word m) ≤ 4
-unfolding mode-word
 mode-short mode.Run = omega arith
 mode-short mode.Wait = omega arith
 mode-short mode.Down = omega arith
+
+-- the first n bytes of an array are a word, so it has n bytes
+pub spelt-long : {word : List ℕ} (bytes : List ℕ) (n : ℕ) → take n bytes ≡ word → n ≤ length bytes → n ≡ length word
+spelt-long bytes n e h = omega (arith, length-take n bytes, ap length e)

@@ -8,7 +8,7 @@ use Rattle.answers.specs.declared.Answer.{Answer}
 use Rattle.answers.specs.declared.Answer.the-variants as answer
 
 -- an answer is the italic word under Receive, or down; a flit after a down is refused
-unfoldable pub answer-word : Answer → List ℕ
+abbrev pub answer-word : Answer → List ℕ
 answer-word (answer.Refused r) = ascii "refused"
 answer-word answer.Held = ascii "held"
 answer-word (answer.Delivered n) = ascii "delivered"
@@ -21,7 +21,7 @@ answer-word answer.Damaged = ascii "damaged"
 answer-word answer.Discarded = ascii "discarded"
 answer-word (answer.Down cause) = ascii "down"
 
-unfoldable pub mode-word : Mode → List ℕ
+abbrev pub mode-word : Mode → List ℕ
 mode-word mode.Run = ascii "run"
 mode-word mode.Wait = ascii "wait"
 mode-word mode.Down = ascii "down"

@@ -3,8 +3,9 @@ use borrow.Author.Needs.{needs}
 use native.Mathlib.Omega.{arith}
 use mathlib.Core.Path.{_≡_, sym, _∙_}
 use Rattle.ends.specs.declared.state.Verdict.the-variants.{Admitted}
-use Rattle.accept.specs.Accept.{verdict, accept, accept-store}
-use Rattle.accept.proofs.Admission.{Admission, admission}
+use Rattle.admission.specs.Admission.{verdict}
+use Rattle.admission.proofs.Admitted.{Admission, admission}
+use Rattle.accept.specs.Accept.{accept, accept-store}
 use Rattle.accept.proofs.accept.Statement.{statement}
 use Rattle.accept.proofs.accept.Tie as tie
 

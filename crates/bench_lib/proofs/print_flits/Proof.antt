@@ -1,10 +1,10 @@
 -- `bench_lib::print_flits` meets its contract: after n turns, what is kept, hold and the output are as after the first n flits.
 -- Assumes nothing.
-use mathlib.Core.Path.{_≡_, refl, sym, ap, _∙_}
+use mathlib.Core.Path.{_≡_, refl, ap, _∙_}
 use Prim.Native.Nat.{ℕ, _+_, _-_, _*_, _/_, _≤_}
 use native.Mathlib.Omega.{arith}
 use lib.ListN.{length}
-use Rattle.text.proofs.Laws.{written-none, puts-as}
+use Rattle.text.proofs.Laws.{puts-none, puts-as}
 use Rattle.ends.proofs.Parts.{flit-is}
 use Rattle.bench_lib.specs.declared.Bench.{Bench}
 use Rattle.bench_lib.specs.Bench.{Session, flits}
@@ -23,7 +23,7 @@ unfolding flits
 loop-holds c =
     let a = c .before .before .before .before .args in (
       omega arith,
-      record { keeps = refl; holds = refl; prints = record { place = refl; bytes = sym (written-none (a .out .now) 0); size = refl } },
+      record { keeps = refl; holds = refl; prints = puts-none (a .out .now) 0 },
       refl,
     )
 

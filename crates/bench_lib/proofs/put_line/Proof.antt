@@ -1,31 +1,129 @@
--- `bench_lib::put_line` meets its contract: its two parts. Assumes nothing.
+-- `bench_lib::put_line` meets its contract: five texts, one after the other. Assumes nothing.
+use mathlib.Core.List.{[], _∷_}
 use native.Mathlib.Omega.{arith}
-use Rattle.text.proofs.Laws.{puts-more}
-use Rattle.bench_lib.specs.Bench.{line}
-use Rattle.bench_lib.proofs.Laws.{answer-part-short}
+use Rattle.text.specs.Text.{ascii}
+use Rattle.text.proofs.Laws.{puts-more, puts-as, form-end}
+use Rattle.words.proofs.Laws.{answer-short, mode-short}
+use Rattle.bench_lib.proofs.Laws.{line-is}
 use borrow.Author.Needs.{needs}
 use Rattle.bench_lib.proofs.put_line.Statement.{statement}
 use Rattle.bench_lib.proofs.put_line.Tie as tie
 
-put-answer-part-requires : tie.Need-put-answer-part-requires
-put-answer-part-requires c κs = search needs
+data-delivered-requires : tie.Need-data-delivered-requires
+data-delivered-requires c κs = search needs
 
-put-state-part-requires : tie.Need-put-state-part-requires
-put-state-part-requires c κs =
-    let a = c .before .before .before .before .before .before .args in
-    let p = c .before .before .before .put-answer-part .ensures in
-    omega (arith, answer-part-short (a .flit) (a .answer))
+cast-wanted : tie.Need-cast-wanted
+cast-wanted c = search needs
+
+slice-aggregate-put-form : tie.Need-slice-aggregate-put-form
+slice-aggregate-put-form c = search needs
+
+slice-aggregate-put-form-2 : tie.Need-slice-aggregate-put-form-2
+slice-aggregate-put-form-2 c = search needs
+
+put-form-requires : tie.Need-put-form-requires
+put-form-requires c κs = search needs
+
+put-answer-requires : tie.Need-put-answer-requires
+put-answer-requires c κs =
+    let a = c .before .before .before .before .before .before .before .before .before .before .args in
+    let p = c .before .before .before .put-form .ensures in
+    omega (
+      arith,
+      c .before .before .before .before .before .before .before .before .before .before .pre,
+      form-end (ascii "flit=# answer=") (a .flit ∷ []) p,
+      p .size,
+    )
+
+slice-aggregate-put-form-3 : tie.Need-slice-aggregate-put-form-3
+slice-aggregate-put-form-3 c = search needs
+
+slice-aggregate-put-form-4 : tie.Need-slice-aggregate-put-form-4
+slice-aggregate-put-form-4 c = search needs
+
+put-form-requires-2 : tie.Need-put-form-requires-2
+put-form-requires-2 c κs =
+    let a = c .before .before .before .before .before .before .before .before .before .before .before .before .before .before .before .before .args in
+    let p = c .before .before .before .before .before .before .before .before .before .put-form .ensures in
+    let q = c .before .before .before .before .before .put-answer .ensures in
+    omega (
+      arith,
+      c .before .before .before .before .before .before .before .before .before .before .before .before .before .before .before .before .pre,
+      form-end (ascii "flit=# answer=") (a .flit ∷ []) p,
+      p .size,
+      q .place,
+      q .size,
+      answer-short (a .answer),
+    )
+
+put-mode-requires : tie.Need-put-mode-requires
+put-mode-requires c κs =
+    let a = c .before .before .before .before .before .before .before .before .before .before .before .before .before .before .before .before .before .before .before .before .args in
+    let p = c .before .before .before .before .before .before .before .before .before .before .before .before .before .put-form .ensures in
+    let q = c .before .before .before .before .before .before .before .before .before .put-answer .ensures in
+    let r = c .before .before .before .put-form2 .ensures in
+    omega (
+      arith,
+      c .before .before .before .before .before .before .before .before .before .before .before .before .before .before .before .before .before .before .before .before .pre,
+      form-end (ascii "flit=# answer=") (a .flit ∷ []) p,
+      p .size,
+      q .place,
+      q .size,
+      answer-short (a .answer),
+      form-end (ascii " data=# wanted=# mode=") (c .before .before .before .before .before .before .before .before .before .before .before .before .before .before .before .before .before .before .data-delivered .result ∷ a .end .wanted .0 ∷ []) r,
+      r .size,
+    )
+
+slice-aggregate-put : tie.Need-slice-aggregate-put
+slice-aggregate-put c = search needs
+
+put-requires : tie.Need-put-requires
+put-requires c κs =
+    let a = c .before .before .before .before .before .before .before .before .before .before .before .before .before .before .before .before .before .before .before .before .before .before .before .before .before .args in
+    let p = c .before .before .before .before .before .before .before .before .before .before .before .before .before .before .before .before .before .before .put-form .ensures in
+    let q = c .before .before .before .before .before .before .before .before .before .before .before .before .before .before .put-answer .ensures in
+    let r = c .before .before .before .before .before .before .before .before .put-form2 .ensures in
+    let s = c .before .before .before .before .put-mode .ensures in
+    omega (
+      arith,
+      c .before .before .before .before .before .before .before .before .before .before .before .before .before .before .before .before .before .before .before .before .before .before .before .before .before .pre,
+      form-end (ascii "flit=# answer=") (a .flit ∷ []) p,
+      p .size,
+      q .place,
+      q .size,
+      answer-short (a .answer),
+      form-end (ascii " data=# wanted=# mode=") (c .before .before .before .before .before .before .before .before .before .before .before .before .before .before .before .before .before .before .before .before .before .before .before .data-delivered .result ∷ a .end .wanted .0 ∷ []) r,
+      r .size,
+      s .place,
+      s .size,
+      mode-short (a .end .mode),
+    )
 
 same-length : tie.Need-same-length
 same-length c = search needs
 
 returns : tie.Need-returns
-unfolding line
 returns c =
-    let p = c .before .before .before .before .before .before .put-answer-part .ensures in
-    let q = c .before .before .put-state-part .ensures in
-    puts-more p q
+    let a = c .before .before .before .before .before .before .before .before .before .before .before .before .before .before .before .before .before .before .before .before .before .before .before .before .before .before .before .before .args in
+    let flits = c .before .before .before .before .before .before .before .before .before .before .before .before .before .before .before .before .before .before .before .before .before .before .before .before .before .before .data-delivered in
+    puts-as (line-is (a .flit) (a .answer) (a .end) (flits .result) (flits .ensures))
+    (puts-more (puts-more (puts-more (puts-more (c .before .before .before .before .before .before .before .before .before .before .before .before .before .before .before .before .before .before .before .before .before .put-form .ensures) (c .before .before .before .before .before .before .before .before .before .before .before .before .before .before .before .before .before .put-answer .ensures)) (c .before .before .before .before .before .before .before .before .before .before .before .put-form2 .ensures)) (c .before .before .before .before .before .before .before .put-mode .ensures)) (c .before .before .put .ensures))
 
 pub put-line-spec : {M : Type 1} → statement M
 put-line-spec =
-    tie.close (tie.spec put-answer-part-requires put-state-part-requires same-length returns)
+    tie.close
+    (tie.spec
+    data-delivered-requires
+    cast-wanted
+    slice-aggregate-put-form
+    slice-aggregate-put-form-2
+    put-form-requires
+    put-answer-requires
+    slice-aggregate-put-form-3
+    slice-aggregate-put-form-4
+    put-form-requires-2
+    put-mode-requires
+    slice-aggregate-put
+    put-requires
+    same-length
+    returns)

@@ -9,12 +9,14 @@ use lib.Dec.{ltb}
 use lib.ListN.{length, take, drop, length-append}
 use Rattle.compose.specs.Flits.{idle-flit}
 use Rattle.ends.specs.Refusals.{cursor-at}
+use Rattle.moves.specs.Moves.{carried, fallen}
+use Rattle.replays.specs.Replays.{replay-sent}
 use Rattle.units.specs.Units.{unit-sent}
-use Rattle.burst.specs.Burst.{carried, fallen, replay-sent, burst}
+use Rattle.burst.specs.Burst.{burst}
 use Rattle.burst.proofs.Cases.{burst-replays, burst-idle, burst-data, burst-control, flits-replays, flits-idle, flits-data, flits-control}
 use Rattle.units.proofs.Lengths.{length-unit}
-use Rattle.burst.proofs.Lengths.{length-idle, length-replays}
-use Rattle.units.proofs.Parts.{put-rest, begins}
+use Rattle.replays.proofs.Lengths.{length-idle, length-replays}
+use Rattle.burst.proofs.Parts.{put-rest, begins}
 use Rattle.burst.proofs.Ready.{ready}
 use Rattle.burst.proofs.write_burst.Statement.{statement}
 use Rattle.burst.proofs.write_burst.Tie as tie

@@ -3,7 +3,6 @@ use mathlib.Core.Path.{_≡_, ap, _∙_}
 use Prim.Native.Nat.{ℕ, _-_}
 use native.Mathlib.Omega.{arith}
 use Rattle.ticket.specs.Ticket.{Call, after}
-use Rattle.counted.specs.Counted.{accepted-counts}
 use borrow.Author.Needs.{needs}
 use Rattle.counted.proofs.after_accepted.Statement.{statement}
 use Rattle.counted.proofs.after_accepted.Tie as tie
@@ -15,11 +14,9 @@ after-accept-requires-2 : tie.Need-after-accept-requires-2
 after-accept-requires-2 c κs = search needs
 
 returns : tie.Need-returns
-unfolding accepted-counts
 returns c = c .after-accept .ensures
 
 returns-2 : tie.Need-returns-2
-unfolding accepted-counts
 returns-2 c =
     let a = c .before .before .args in
     let t = c .after-accept2 .ensures in

@@ -1,5 +1,4 @@
 -- `counted::after_received` meets its contract. Assumes nothing.
-use Rattle.counted.specs.Counted.{received-counts}
 use borrow.Author.Needs.{needs}
 use Rattle.counted.proofs.after_received.Statement.{statement}
 use Rattle.counted.proofs.after_received.Tie as tie
@@ -8,7 +7,6 @@ after-receive-requires : tie.Need-after-receive-requires
 after-receive-requires c κs = search needs
 
 returns : tie.Need-returns
-unfolding received-counts
 returns c = c .after-receive .ensures
 
 pub after-received-spec : {M : Type 1} → statement M

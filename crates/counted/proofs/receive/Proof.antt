@@ -45,8 +45,8 @@ use Rattle.ticket.specs.declared.Ticket.{Ticket}
 use Rattle.ends.specs.declared.state.End.{End}
 use Rattle.receive.specs.declared.Received.{Received}
 use Rattle.receive.specs.Receive.{receive as receive-of, receive-hold}
-use Rattle.counted.specs.Counted.{received-counts}
-use Rattle.counted.proofs.Laws.{receive-counts}
+use Rattle.counted.proofs.Laws.{received-counts, receive-counts}
+use Rattle.counted.proofs.Values.{vals, end-vals}
 use Rattle.ticket.proofs.Ticket as T
 use Rattle.ticket.proofs.Ticket.Laws as T′
 use Rattle.ends.proofs.state.End as E
@@ -75,12 +75,6 @@ stayed = (
   stay-ref (0 ∷ []) tt (plain (λ _. T.the-row)),
   (stay-dropped (plain (λ _. E.the-row)) yes, (stay-dropped (shrSliceOf (1 ∷ []) tt (plain (λ _. u8))) yes, (gave-slice (2 ∷ []) tt (plain (λ _. u8)), (stay-dropped (shrSliceOf (3 ∷ []) tt (plain (λ _. u8))) yes, tt)))),
 )
-
-abbrev vals : Ticket → List Val
-vals = LL.vals T.the-type T′.the-laws
-
-abbrev end-vals : End → List Val
-end-vals = LL.vals E.the-type E′.the-laws
 
 module _ {M : Type 1} (𝓤 : URA M) (H : Heap 𝓤) (A : Atoms 𝓤) (at-mem : Memory → SProp 𝓤) (run : Routine → Fun 𝓤) where
   -- the contracts that the proof cites

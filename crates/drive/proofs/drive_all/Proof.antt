@@ -1,6 +1,6 @@
 -- `drive::drive_all` is safe and ends: the measure is the turns left. Assumes nothing.
 use mathlib.Core.List.{List}
-use mathlib.Core.Path.{_≡_, refl, _∙_}
+use mathlib.Core.Path.{_≡_, refl, ap, sym, _∙_}
 use Prim.Native.Nat.{ℕ, _+_, _-_, _≤_}
 use native.Mathlib.Omega.{arith}
 use borrow.Author.Needs.{needs}
@@ -8,7 +8,7 @@ use borrow.Author.Tests.{ltb-true}
 use lib.Dec.{ltb}
 use lib.ListN.{length, take, drop, length-take, length-drop}
 use Rattle.ends.proofs.Tests.{and-r}
-use Rattle.drive_lib.specs.Drive.{Ready}
+use Rattle.pair.specs.Pair.{Ready}
 use Rattle.drive_lib.proofs.Taken.{all-taken}
 use Rattle.drive.proofs.drive_all.Statement.{statement}
 use Rattle.drive.proofs.drive_all.Tie as tie
@@ -21,13 +21,7 @@ inside input from to used f t u =
 
 abbrev Inv-loop : tie.InvT-loop
 Inv-loop t store-a₀ hold-a₀ store-b₀ hold-b₀ line₀ bytes₀ input₀ out₀ kept₀ turn₀ store-a hold-a store-b hold-b line bytes input out kept turn =
-    Ready kept
-    × (length store-a ≡ length store-a₀)
-    × (length hold-a ≡ length hold-a₀)
-    × (length store-b ≡ length store-b₀)
-    × (length hold-b ≡ length hold-b₀)
-    × (length line ≡ length line₀)
-    × (length bytes ≡ length bytes₀)
+    Ready kept store-a hold-a store-b hold-b line bytes
     × (length input ≡ length input₀)
     × (length out ≡ length out₀)
     × (turn .from ≤ turn .to)
@@ -43,10 +37,10 @@ first-turn-requires c κs = search needs
 loop-holds : tie.Need-loop-holds Inv-loop μ-loop
 loop-holds c =
     let f = c .first-turn .ensures in
-    (c .before .before .before .before .before .before .before .before .before .pre .1, refl, refl, refl, refl, refl, refl, refl, refl, omega arith, omega arith)
+    (c .before .before .before .before .before .before .before .before .before .pre .1, refl, refl, omega arith, omega arith)
 
 read-more-requires : tie.Need-read-more-requires Inv-loop μ-loop
-read-more-requires c κs = let l = c .before .before .before .before .loop .inv in (l .9, l .10)
+read-more-requires c κs = let l = c .before .before .before .before .loop .inv in (l .3, l .4)
 
 sub-feed : tie.Need-sub-feed Inv-loop μ-loop
 sub-feed c = c .before .before .before .before .before .before .before .before .read-more .ensures .0
@@ -60,19 +54,8 @@ part-feed-end c = let r = c .before .before .before .before .before .before .bef
 feed-requires : tie.Need-feed-requires Inv-loop μ-loop
 feed-requires c κs =
     let p = c .before .before .before .before .before .before .before .before .before .before .before .before .before .before .before .before .before .before .before .before .before .before .before .before .before .before .pre in
-    let l = c .before .before .before .before .before .before .before .before .before .before .before .before .before .before .before .before .loop .inv in (
-      p .0,
-      l .0,
-      record {
-        store-a = l .1 ∙ p .2 .store-a;
-        hold-a = l .2 ∙ p .2 .hold-a;
-        store-b = l .3 ∙ p .2 .store-b;
-        hold-b = l .4 ∙ p .2 .hold-b;
-        line = l .5 ∙ p .2 .line;
-        bytes = l .6 ∙ p .2 .bytes;
-      },
-      omega (arith, p .3, l .8),
-    )
+    let l = c .before .before .before .before .before .before .before .before .before .before .before .before .before .before .before .before .loop .inv in
+    (p .0, l .0, omega (arith, p .2, l .2))
 
 write-requires : tie.Need-write-requires Inv-loop μ-loop
 write-requires c κs = c .before .before .before .before .before .before .before .before .before .before .before .before .before .before .before .feed .ensures .0 .inside
@@ -98,41 +81,35 @@ loop-again c =
     let r = c .before .before .before .before .before .before .before .before .before .before .before .before .before .before .before .before .before .before .before .before .before .before .before .before .before .before .before .before .before .before .read-more in
     let n = c .next-turn in (
       f .ensures .0 .ready,
-      f .kept .1 .1 .0 ∙ l .1,
-      f .kept .1 .1 .1 .0 ∙ l .2,
-      f .kept .1 .1 .1 .1 .0 ∙ l .3,
-      f .kept .1 .1 .1 .1 .1 .0 ∙ l .4,
-      f .kept .1 .1 .1 .1 .1 .1 .0 ∙ l .5,
-      f .kept .1 .1 .1 .1 .1 .1 .1 .0 ∙ l .6,
-      r .kept .1 .0 ∙ l .7,
-      f .kept .1 .1 .1 .1 .1 .1 .1 .1 .1 .0 ∙ l .8,
+      r .kept .1 .0 ∙ l .1,
+      f .kept .1 .1 .1 .1 .1 .1 .1 .1 .1 .0 ∙ l .2,
       omega (arith, n .ensures .0, n .ensures .1, used-inside (c .before)),
       omega (arith, n .ensures .1, r .ensures .1, r .kept .1 .0),
     )
 
 same-length : tie.Need-same-length Inv-loop μ-loop
-same-length c = c .before .before .before .loop .inv .1
+same-length c = c .before .before .before .loop .inv .0 .a .store-size ∙ sym (c .before .before .before .before .before .before .before .before .before .before .before .before .before .pre .1 .a .store-size)
 
 same-length-2 : tie.Need-same-length-2 Inv-loop μ-loop
-same-length-2 c = c .before .before .before .loop .inv .2
+same-length-2 c = c .before .before .before .loop .inv .0 .a .hold-size ∙ sym (c .before .before .before .before .before .before .before .before .before .before .before .before .before .pre .1 .a .hold-size)
 
 same-length-3 : tie.Need-same-length-3 Inv-loop μ-loop
-same-length-3 c = c .before .before .before .loop .inv .3
+same-length-3 c = c .before .before .before .loop .inv .0 .b .store-size ∙ sym (c .before .before .before .before .before .before .before .before .before .before .before .before .before .pre .1 .b .store-size)
 
 same-length-4 : tie.Need-same-length-4 Inv-loop μ-loop
-same-length-4 c = c .before .before .before .loop .inv .4
+same-length-4 c = c .before .before .before .loop .inv .0 .b .hold-size ∙ sym (c .before .before .before .before .before .before .before .before .before .before .before .before .before .pre .1 .b .hold-size)
 
 same-length-5 : tie.Need-same-length-5 Inv-loop μ-loop
-same-length-5 c = c .before .before .before .loop .inv .5
+same-length-5 c = c .before .before .before .loop .inv .0 .line-size ∙ sym (c .before .before .before .before .before .before .before .before .before .before .before .before .before .pre .1 .line-size)
 
 same-length-6 : tie.Need-same-length-6 Inv-loop μ-loop
-same-length-6 c = c .before .before .before .loop .inv .6
+same-length-6 c = ap length (c .before .before .before .loop .inv .0 .bytes ∙ sym (c .before .before .before .before .before .before .before .before .before .before .before .before .before .pre .1 .bytes))
 
 same-length-7 : tie.Need-same-length-7 Inv-loop μ-loop
-same-length-7 c = c .before .before .before .loop .inv .7
+same-length-7 c = c .before .before .before .loop .inv .1
 
 same-length-8 : tie.Need-same-length-8 Inv-loop μ-loop
-same-length-8 c = c .before .before .before .loop .inv .8
+same-length-8 c = c .before .before .before .loop .inv .2
 
 returns : tie.Need-returns Inv-loop μ-loop
 returns c = c .before .before .before .loop .inv .0

@@ -1,5 +1,5 @@
 -- `drive_lib::feed` meets its contract: after some turns, what is kept and the output are as after so many bytes. Assumes nothing.
-use mathlib.Core.Path.{_≡_, refl, sym, _∙_}
+use mathlib.Core.Path.{_≡_, refl, ap, sym, _∙_}
 use Prim.Native.Nat.{_+_, _-_, _^_, _≤_, _<_}
 use native.Mathlib.Nat.{zero-add}
 use native.Mathlib.Omega.{arith}
@@ -7,7 +7,8 @@ use borrow.Author.Tests.{ltb-true, leb-true}
 use lib.Dec.{ltb}
 use lib.ListN.{length}
 use Rattle.ends.proofs.Tests.{and-l, and-r}
-use Rattle.drive_lib.specs.Drive.{session, taken, state-in, Goes}
+use Rattle.pair.specs.Pair.{state-in, Goes}
+use Rattle.drive_lib.specs.Drive.{session, taken}
 use Rattle.drive_lib.proofs.Steps.{goes-none, goes-on}
 use Rattle.drive_lib.proofs.Taken.{none-taken, taken-next, taken-end}
 use Rattle.drive_lib.proofs.feed.Statement.{statement}
@@ -16,13 +17,7 @@ use Rattle.drive_lib.proofs.feed.Tie as tie
 abbrev Inv-loop : tie.InvT-loop
 Inv-loop t store-a₀ hold-a₀ store-b₀ hold-b₀ line₀ bytes₀ input out₀ most kept₀ at₀ used₀ store-a hold-a store-b hold-b line bytes out kept at used =
     (used ≤ length input)
-    × Goes (session (state-in kept₀ store-a₀ hold-a₀ store-b₀ hold-b₀ line₀) input used) kept store-a hold-a store-b hold-b line out₀ 0 at out
-    × (length store-a ≡ length store-a₀)
-    × (length hold-a ≡ length hold-a₀)
-    × (length store-b ≡ length store-b₀)
-    × (length hold-b ≡ length hold-b₀)
-    × (length line ≡ length line₀)
-    × (length bytes ≡ length bytes₀)
+    × Goes (session (state-in kept₀ store-a₀ hold-a₀ store-b₀ hold-b₀ line₀) input used) kept store-a hold-a store-b hold-b line bytes out₀ 0 at out
     × (used ≡ taken (state-in kept₀ store-a₀ hold-a₀ store-b₀ hold-b₀ line₀) input (length out₀) used)
 
 abbrev μ-loop : tie.MeasureT-loop
@@ -30,12 +25,15 @@ abbrev μ-loop : tie.MeasureT-loop
     length input - used
 
 sub-most : tie.Need-sub-most Inv-loop μ-loop
-sub-most c = omega (arith, c .before .before .before .before .before .before .before .before .pre .3)
+sub-most c = omega (arith, c .before .before .before .before .before .before .before .before .pre .2)
 
 loop-holds : tie.Need-loop-holds Inv-loop μ-loop
 loop-holds c =
-    let a = c .before .before .before .before .before .before .before .before .args in
-    (omega arith, goes-none (a .d) (a .store-a .now) (a .hold-a .now) (a .store-b .now) (a .hold-b .now) (a .line .now) (a .input .now) (a .out .now) (c .before .before .before .before .before .before .before .before .pre .1), refl, refl, refl, refl, refl, refl, sym (none-taken (state-in (a .d) (a .store-a .now) (a .hold-a .now) (a .store-b .now) (a .hold-b .now) (a .line .now)) (a .input .now) (length (a .out .now))))
+    let a = c .before .before .before .before .before .before .before .before .args in (
+      omega arith,
+      goes-none (a .d) (a .store-a .now) (a .hold-a .now) (a .store-b .now) (a .hold-b .now) (a .line .now) (a .bytes .now) (a .input .now) (a .out .now) (c .before .before .before .before .before .before .before .before .pre .1),
+      sym (none-taken (state-in (a .d) (a .store-a .now) (a .hold-a .now) (a .store-b .now) (a .hold-b .now) (a .line .now)) (a .input .now) (length (a .out .now))),
+    )
 
 shared-slice-read-c : tie.Need-shared-slice-read-c Inv-loop μ-loop
 shared-slice-read-c c =
@@ -50,19 +48,8 @@ step-requires c κs =
     let p = c .before .before .before .before .before .before .before .before .before .before .before .before .before .before .before .before .before .before .pre in
     let l = c .before .before .before .before .before .before .before .before .before .loop in
     let t = c .before .before .before .before .before .before .before .before .loop-test .taken in
-    let g = l .inv .1 in (
-      p .0,
-      g .ready,
-      record {
-        store-a = l .inv .2 ∙ p .2 .store-a;
-        hold-a = l .inv .3 ∙ p .2 .hold-a;
-        store-b = l .inv .4 ∙ p .2 .store-b;
-        hold-b = l .inv .5 ∙ p .2 .hold-b;
-        line = l .inv .6 ∙ p .2 .line;
-        bytes = l .inv .7 ∙ p .2 .bytes;
-      },
-      omega (arith, p .3, g .lines .size, leb-true (l .at) _ (and-r (ltb (l .used) (length (a .input .now))) _ t)),
-    )
+    let g = l .inv .1 in
+    (p .0, g .ready, omega (arith, p .2, g .lines .size, leb-true (l .at) _ (and-r (ltb (l .used) (length (a .input .now))) _ t)))
 
 before-end : (c : tie.After-kept Inv-loop μ-loop) → c .before .before .before .before .before .before .before .before .before .before .before .before .before .before .before .before .before .before .before .before .before .before .before .before .before .loop .used + 1 ≤ length (c .before .before .before .before .before .before .before .before .before .before .before .before .before .before .before .before .before .before .before .before .before .before .before .before .before .before .before .before .before .before .before .before .before .before .args .input .now)
 before-end c =
@@ -78,7 +65,7 @@ room-left c =
     let p = c .before .before .before .before .before .before .before .before .before .before .before .before .before .before .before .before .before .before .before .before .before .before .before .before .before .before .before .before .before .before .before .before .before .before .pre in
     let l = c .before .before .before .before .before .before .before .before .before .before .before .before .before .before .before .before .before .before .before .before .before .before .before .before .before .loop in
     let t = c .before .before .before .before .before .before .before .before .before .before .before .before .before .before .before .before .before .before .before .before .before .before .before .before .loop-test .taken in
-    omega (arith, p .3, leb-true (l .at) _ (and-r (ltb (l .used) (length (a .input .now))) _ t))
+    omega (arith, p .2, leb-true (l .at) _ (and-r (ltb (l .used) (length (a .input .now))) _ t))
 
 add-used : tie.Need-add-used Inv-loop μ-loop
 add-used c =
@@ -97,34 +84,28 @@ loop-again c =
     let s = c .before .before .before .before .before .before .before .before .before .before .before .before .before .before .before .step in
     let start = state-in (a .d) (a .store-a .now) (a .hold-a .now) (a .store-b .now) (a .hold-b .now) (a .line .now) in (
       before-end c,
-      goes-on start (a .input .now) (l .used) (l .kept) (s .result .drive) (l .store-a) (l .hold-a) (l .store-b) (l .hold-b) (l .line)
-          _ _ _ _ _ (a .out .now) (l .out) _ (l .at) (s .result .at) _ (l .inv .1) (s .ensures) refl,
-      s .kept .1 .1 .0 ∙ l .inv .2,
-      s .kept .1 .1 .1 .0 ∙ l .inv .3,
-      s .kept .1 .1 .1 .1 .0 ∙ l .inv .4,
-      s .kept .1 .1 .1 .1 .1 .0 ∙ l .inv .5,
-      s .kept .1 .1 .1 .1 .1 .1 .0 ∙ l .inv .6,
-      s .kept .1 .1 .1 .1 .1 .1 .1 .0 ∙ l .inv .7,
-      taken-next start (a .input .now) (length (a .out .now)) (l .used) (l .inv .8) (omega (arith, l .inv .1 .lines .place, room-left c)),
+      goes-on start (a .input .now) (l .used) (l .kept) (s .result .drive) (l .store-a) (l .hold-a) (l .store-b) (l .hold-b) (l .line) (l .bytes)
+          _ _ _ _ _ _ (a .out .now) (l .out) _ (l .at) (s .result .at) _ (l .inv .1) (s .ensures) refl,
+      taken-next start (a .input .now) (length (a .out .now)) (l .used) (l .inv .2) (omega (arith, l .inv .1 .lines .place, room-left c)),
     )
 
 same-length : tie.Need-same-length Inv-loop μ-loop
-same-length c = c .before .loop .inv .2
+same-length c = c .before .loop .inv .1 .ready .a .store-size ∙ sym (c .before .before .before .before .before .before .before .before .before .before .pre .1 .a .store-size)
 
 same-length-2 : tie.Need-same-length-2 Inv-loop μ-loop
-same-length-2 c = c .before .loop .inv .3
+same-length-2 c = c .before .loop .inv .1 .ready .a .hold-size ∙ sym (c .before .before .before .before .before .before .before .before .before .before .pre .1 .a .hold-size)
 
 same-length-3 : tie.Need-same-length-3 Inv-loop μ-loop
-same-length-3 c = c .before .loop .inv .4
+same-length-3 c = c .before .loop .inv .1 .ready .b .store-size ∙ sym (c .before .before .before .before .before .before .before .before .before .before .pre .1 .b .store-size)
 
 same-length-4 : tie.Need-same-length-4 Inv-loop μ-loop
-same-length-4 c = c .before .loop .inv .5
+same-length-4 c = c .before .loop .inv .1 .ready .b .hold-size ∙ sym (c .before .before .before .before .before .before .before .before .before .before .pre .1 .b .hold-size)
 
 same-length-5 : tie.Need-same-length-5 Inv-loop μ-loop
-same-length-5 c = c .before .loop .inv .6
+same-length-5 c = c .before .loop .inv .1 .ready .line-size ∙ sym (c .before .before .before .before .before .before .before .before .before .before .pre .1 .line-size)
 
 same-length-6 : tie.Need-same-length-6 Inv-loop μ-loop
-same-length-6 c = c .before .loop .inv .7
+same-length-6 c = ap length (c .before .loop .inv .1 .ready .bytes ∙ sym (c .before .before .before .before .before .before .before .before .before .before .pre .1 .bytes))
 
 same-length-7 : tie.Need-same-length-7 Inv-loop μ-loop
 same-length-7 c = c .before .loop .inv .1 .lines .size
@@ -133,7 +114,7 @@ returns : tie.Need-returns Inv-loop μ-loop
 returns c =
     let a = c .before .before .before .before .before .before .before .before .before .before .args in
     let l = c .before .loop in
-    (l .inv .1, taken-end (state-in (a .d) (a .store-a .now) (a .hold-a .now) (a .store-b .now) (a .hold-b .now) (a .line .now)) (a .input .now) (length (a .out .now)) (l .used) (l .inv .8) (l .at) (l .inv .1 .lines .place ∙ zero-add _) (l .inv .0) (c .before .before .before .before .before .before .before .before .before .before .pre .3) (c .loop-test .left))
+    (l .inv .1, taken-end (state-in (a .d) (a .store-a .now) (a .hold-a .now) (a .store-b .now) (a .hold-b .now) (a .line .now)) (a .input .now) (length (a .out .now)) (l .used) (l .inv .2) (l .at) (l .inv .1 .lines .place ∙ zero-add _) (l .inv .0) (c .before .before .before .before .before .before .before .before .before .before .pre .2) (c .loop-test .left))
 
 pub feed-spec : {M : Type 1} → statement M
 feed-spec =

@@ -1,10 +1,6 @@
 -- `drive_lib::finish` meets its contract. Assumes nothing.
-use mathlib.Core.Path.{refl, sym, _∙_}
-use native.Mathlib.Omega.{arith}
-use lib.Seq.{length-take-le}
-use Rattle.text.proofs.Laws.{puts-as, written-none}
-use Rattle.drive_lib.specs.Drive.{state-in}
-use Rattle.drive_lib.proofs.Steps.{finished-none, finished-some}
+use Rattle.pair.proofs.Bytes.{goes-as}
+use Rattle.drive_lib.proofs.Steps.{goes-finished, finished-some}
 use borrow.Author.Needs.{needs}
 use Rattle.drive_lib.proofs.finish.Statement.{statement}
 use Rattle.drive_lib.proofs.finish.Tie as tie
@@ -12,12 +8,7 @@ use Rattle.drive_lib.proofs.finish.Tie as tie
 returns : tie.Need-returns
 returns c =
     let a = c .before .before .before .before .before .before .before .before .before .args in
-    let p = c .before .before .before .before .before .before .before .before .before .pre in
-    let n = length-take-le (a .d .length) (a .line .now) (omega (arith, p .1 .line, p .2 .line)) in (
-      puts-as (finished-none (state-in (a .d) (a .store-a .now) (a .hold-a .now) (a .store-b .now) (a .hold-b .now) (a .line .now)) (omega (arith, n, c .if1 .taken)))
-          (record { place = refl; bytes = sym (written-none (a .out .now) 0); size = refl }),
-      omega arith,
-    )
+    goes-finished (a .d) (a .store-a .now) (a .hold-a .now) (a .store-b .now) (a .hold-b .now) (a .line .now) (a .bytes .now) (a .out .now) (c .before .before .before .before .before .before .before .before .before .pre .1) (c .if1 .taken)
 
 end-line-requires : tie.Need-end-line-requires
 end-line-requires c κs = search needs
@@ -40,15 +31,13 @@ same-length-5 c = search needs
 same-length-6 : tie.Need-same-length-6
 same-length-6 c = search needs
 
+same-length-7 : tie.Need-same-length-7
+same-length-7 c = search needs
+
 returns-2 : tie.Need-returns-2
 returns-2 c =
-    let a = c .before .before .before .before .before .before .before .before .before .before .before .before .before .before .before .before .before .before .before .before .before .before .before .before .before .before .before .before .args in
-    let p = c .before .before .before .before .before .before .before .before .before .before .before .before .before .before .before .before .before .before .before .before .before .before .before .before .before .before .before .before .pre in
-    let g = c .before .before .before .before .before .before .before .before .before .before .before .before .end-line .ensures in
-    let n = length-take-le (a .d .length) (a .line .now) (omega (arith, p .1 .line, p .2 .line)) in (
-      puts-as (finished-some (state-in (a .d) (a .store-a .now) (a .hold-a .now) (a .store-b .now) (a .hold-b .now) (a .line .now)) (λ z. c .before .before .before .before .before .before .before .before .before .before .before .before .before .before .before .before .before .before .before .if1 .left (sym n ∙ z))) (g .lines),
-      omega (arith, g .inside, g .lines .size),
-    )
+    let a = c .before .before .before .before .before .before .before .before .before .before .before .before .before .before .before .before .before .before .before .before .before .before .before .before .before .before .before .before .before .before .before .args in
+    goes-as (finished-some (a .d) (a .store-a .now) (a .hold-a .now) (a .store-b .now) (a .hold-b .now) (a .line .now) (a .bytes .now) (c .before .before .before .before .before .before .before .before .before .before .before .before .before .before .before .before .before .before .before .before .before .before .before .before .before .before .before .before .before .before .before .pre .1) (c .before .before .before .before .before .before .before .before .before .before .before .before .before .before .before .before .before .before .before .before .before .before .if1 .left)) (c .before .before .before .before .before .before .before .before .before .before .before .before .before .before .end-line .ensures)
 
 pub finish-spec : {M : Type 1} → statement M
 finish-spec =
@@ -62,4 +51,5 @@ finish-spec =
     same-length-4
     same-length-5
     same-length-6
+    same-length-7
     returns-2)

@@ -1,18 +1,30 @@
 -- `drive_lib::unstarted_side` meets its contract. Assumes nothing.
-use mathlib.Core.Path.{ap, sym, subst}
+use mathlib.Core.Path.{ap, _∙_}
+use Prim.Native.Nat.{ℕ}
 use native.Mathlib.Omega.{arith}
-use Rattle.sides.specs.Sides.{repeated, started}
-use Rattle.sides.specs.declared.Side.{Side}
+use Rattle.sides.specs.Sides.{repeated}
 use Rattle.sides.specs.declared.Took.{Took}
-use Rattle.lines.specs.Lines.{Sized}
-use Rattle.lines.proofs.Leaving.{keeps}
+use Rattle.sides.proofs.Lent.{clean-whole, zeros-clean, cleared-all}
+use Rattle.lines.specs.Lines.{start-line, stated}
+use Rattle.lines.proofs.Leaving.{buffered-zeros}
 use Rattle.drive_lib.specs.Drive.{unstarted}
 use borrow.Author.Needs.{needs}
 use Rattle.drive_lib.proofs.unstarted_side.Statement.{statement}
 use Rattle.drive_lib.proofs.unstarted_side.Tie as tie
 
+clear-requires : tie.Need-clear-requires
+clear-requires c κs =
+    let a = c .before .before .before .args in
+    let p = c .before .before .before .pre in
+    (omega arith, omega (arith, p .1), clean-whole (a .hold .now) 2000 (omega (arith, p .1)))
+
 start-requires : tie.Need-start-requires
-start-requires c κs = search needs
+start-requires c κs =
+    let a = c .before .before .before .before .before .before .before .before .args in
+    let p = c .before .before .before .before .before .before .before .before .pre in
+    let cleared = c .before .before .before .before .clear in
+    let z = zeros-clean (cleared .last .0) 2000 576 (cleared-all (cleared .ensures) (p .1)) (omega arith) in
+    (omega (arith, p .0), omega arith, omega (arith, z .2), clean-whole (a .store .now) 70000 (omega (arith, p .0)), z .0)
 
 same-length : tie.Need-same-length
 same-length c = search needs
@@ -21,13 +33,16 @@ same-length-2 : tie.Need-same-length-2
 same-length-2 c = search needs
 
 returns : tie.Need-returns
-unfolding started unstarted
+unfolding unstarted start-line stated
 returns c =
+    let p = c .before .before .before .before .before .before .before .before .before .before .before .before .before .before .pre in
     let s = c .before .before .before .before .before .start in
-    let e = ap (λ (r : Took). r .side) (s .ensures .0) in (
-      keeps (s .result .side) (started 0 .side) (s .last .0) (s .last .1 .0) (repeated 0 0) (repeated 576 0) e (s .ensures .1 .0) (s .ensures .1 .1 .0),
-      subst (λ (x : Side). Sized x) (sym e) (record { kept = omega arith; store = omega arith; hold = omega arith }),
-    )
+    let b =
+    buffered-zeros 0 (s .result .side) (s .last .1 .0) (s .last .1 .1 .0) (omega arith) (ap (λ (r : Took). r .side) (s .ensures .0))
+    (s .ensures .1 .0 ∙ ap (λ (n : ℕ). repeated n 0) (p .0))
+    (s .ensures .1 .1 ∙ ap (λ (n : ℕ). repeated n 0) (c .before .before .before .before .before .before .before .before .before .before .clear .kept .0 ∙ p .1)) in
+    (b .1, b .0)
 
 pub unstarted-side-spec : {M : Type 1} → statement M
-unstarted-side-spec = tie.close (tie.spec start-requires same-length same-length-2 returns)
+unstarted-side-spec =
+    tie.close (tie.spec clear-requires start-requires same-length same-length-2 returns)

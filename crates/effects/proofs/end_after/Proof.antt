@@ -1,5 +1,5 @@
 use mathlib.Core.Bool.{false}
-use mathlib.Core.Path.{_≡_, sym, ap, _∙_}
+use mathlib.Core.Path.{_≡_, refl, sym, ap, _∙_}
 use Prim.Native.Nat.{ℕ}
 use native.Mathlib.Omega.{arith}
 use borrow.Author.Needs.{needs}
@@ -72,8 +72,8 @@ replay-taken-requires c κs =
     let s = c .before .before .before in
     covers s (newly-covered (s .args .e) (s .args .f .last .0)) (says s _ (c .enum-told6 .given .1) .within)
 
-with-mode-requires : tie.Need-with-mode-requires
-with-mode-requires c κs = search needs
+running-requires : tie.Need-running-requires
+running-requires c κs = search needs
 
 enum-told-7 : tie.Need-enum-told-7
 enum-told-7 c = search needs
@@ -113,71 +113,54 @@ enum-known-answer c = search needs
 down-requires : tie.Need-down-requires
 down-requires c κs = search needs
 
+-- the end after the answer that was met is the end after the answer
+meets : (s : tie.Start) (z : Answer) (r : End) → s .args .answer ≡ z → r ≡ end-after z (s .args .e) (s .args .store .now) (s .args .f)
+    → r ≡ end-after (s .args .answer) (s .args .e) (s .args .store .now) (s .args .f)
+meets s z r h p = p ∙ sym (ap (λ (x : Answer). end-after x (s .args .e) (s .args .store .now) (s .args .f)) h)
+
 returns : tie.Need-returns
 unfolding end-after
-returns c =
-    let a = c .before .before .before .args in
-    sym (ap (λ (x : Answer). end-after x (a .e) (a .store .now) (a .f)) (c .enum-told .given .1))
+returns c = meets (c .before .before .before) _ _ (c .enum-told .given .1) refl
 
 returns-2 : tie.Need-returns-2
 unfolding end-after
-returns-2 c =
-    let a = c .before .before .before .before .args in
-    c .held .ensures ∙ sym (ap (λ (x : Answer). end-after x (a .e) (a .store .now) (a .f)) (c .before .enum-told2 .given .1))
+returns-2 c = meets (c .before .before .before .before) _ _ (c .before .enum-told2 .given .1) (c .held .ensures)
 
 returns-3 : tie.Need-returns-3
 unfolding end-after
-returns-3 c =
-    let a = c .before .before .before .before .args in
-    c .delivered .ensures ∙ sym (ap (λ (x : Answer). end-after x (a .e) (a .store .now) (a .f)) (c .before .enum-told3 .given .1))
+returns-3 c = meets (c .before .before .before .before) _ _ (c .before .enum-told3 .given .1) (c .delivered .ensures)
 
 returns-4 : tie.Need-returns-4
 unfolding end-after
-returns-4 c =
-    let a = c .before .before .before .before .args in
-    c .closed .ensures ∙ sym (ap (λ (x : Answer). end-after x (a .e) (a .store .now) (a .f)) (c .before .enum-told4 .given .1))
+returns-4 c = meets (c .before .before .before .before) _ _ (c .before .enum-told4 .given .1) (c .closed .ensures)
 
 returns-5 : tie.Need-returns-5
 unfolding end-after
-returns-5 c =
-    let a = c .before .before .before .before .args in
-    c .idled .ensures ∙ sym (ap (λ (x : Answer). end-after x (a .e) (a .store .now) (a .f)) (c .before .enum-told5 .given .1))
+returns-5 c = meets (c .before .before .before .before) _ _ (c .before .enum-told5 .given .1) (c .idled .ensures)
 
 returns-6 : tie.Need-returns-6
 unfolding end-after
-returns-6 c =
-    let a = c .before .before .before .before .before .args in
-    c .with-mode .ensures ∙ ap (λ (z : End). with-mode Run (with-discards 0 z)) (c .before .replay-taken .ensures) ∙ sym (ap (λ (x : Answer). end-after x (a .e) (a .store .now) (a .f)) (c .before .before .enum-told6 .given .1))
+returns-6 c = meets (c .before .before .before .before .before) _ _ (c .before .before .enum-told6 .given .1) (c .running .ensures ∙ ap (λ (z : End). with-mode Run (with-discards 0 z)) (c .before .replay-taken .ensures))
 
 returns-7 : tie.Need-returns-7
 unfolding end-after
-returns-7 c =
-    let a = c .before .before .before .before .before .args in
-    c .ahead .ensures ∙ ap (ahead-in (a .e .mode)) (c .before .replay-taken2 .ensures) ∙ sym (ap (λ (x : Answer). end-after x (a .e) (a .store .now) (a .f)) (c .before .before .enum-told7 .given .1))
+returns-7 c = meets (c .before .before .before .before .before) _ _ (c .before .before .enum-told7 .given .1) (c .ahead .ensures ∙ ap (ahead-in (c .before .before .before .before .before .args .e .mode)) (c .before .replay-taken2 .ensures))
 
 returns-8 : tie.Need-returns-8
 unfolding end-after
-returns-8 c =
-    let a = c .before .before .before .args in
-    sym (ap (λ (x : Answer). end-after x (a .e) (a .store .now) (a .f)) (c .enum-told8 .given .1))
+returns-8 c = meets (c .before .before .before) _ _ (c .enum-told8 .given .1) refl
 
 returns-9 : tie.Need-returns-9
 unfolding end-after
-returns-9 c =
-    let a = c .before .before .before .before .args in
-    c .waiting .ensures ∙ sym (ap (λ (x : Answer). end-after x (a .e) (a .store .now) (a .f)) (c .before .enum-told9 .given .1))
+returns-9 c = meets (c .before .before .before .before) _ _ (c .before .enum-told9 .given .1) (c .waiting .ensures)
 
 returns-10 : tie.Need-returns-10
 unfolding end-after
-returns-10 c =
-    let a = c .before .before .before .before .args in
-    c .discarded .ensures ∙ sym (ap (λ (x : Answer). end-after x (a .e) (a .store .now) (a .f)) (c .before .enum-told10 .given .1))
+returns-10 c = meets (c .before .before .before .before) _ _ (c .before .enum-told10 .given .1) (c .discarded .ensures)
 
 returns-11 : tie.Need-returns-11
 unfolding end-after
-returns-11 c =
-    let a = c .before .before .before .before .before .args in
-    c .down .ensures ∙ sym (ap (λ (x : Answer). end-after x (a .e) (a .store .now) (a .f)) (c .before .before .answer .given .1))
+returns-11 c = meets (c .before .before .before .before .before) _ _ (c .before .before .answer .given .1) (c .down .ensures)
 
 pub end-after-spec : {M : Type 1} → statement M
 end-after-spec =
@@ -194,7 +177,7 @@ end-after-spec =
     idled-requires
     enum-told-6
     replay-taken-requires
-    with-mode-requires
+    running-requires
     enum-told-7
     replay-taken-requires-2
     ahead-requires

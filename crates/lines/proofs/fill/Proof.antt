@@ -1,12 +1,10 @@
 -- `lines::fill` meets its contract. Assumes nothing.
-use mathlib.Core.Path.{refl, sym, _∙_}
-use lib.ListN.{length, take}
+use mathlib.Core.Path.{refl, sym, ap, _∙_}
+use native.Mathlib.Omega.{arith}
+use lib.ListN.{take}
 use borrow.Author.Tests.{not-true, not-false}
-use Rattle.text.specs.Text.{written}
-use Rattle.ends.proofs.Tests.{cond-true, cond-false}
-use Rattle.sides.specs.Sides.{fill-fits}
-use Rattle.lines.specs.Lines.{kept-in}
-use Rattle.lines.proofs.Leaving.{keeps, leaves-filled, leaves-unfilled}
+use Rattle.lines.specs.Lines.{bad, kept-in}
+use Rattle.lines.proofs.Leaving.{buffered-store, stored-bytes, keeps, filled, length-filled, leaves-as, leaves-stated, leaves-filled, leaves-unfilled}
 use borrow.Author.Needs.{needs}
 use Rattle.lines.proofs.fill.Statement.{statement}
 use Rattle.lines.proofs.fill.Tie as tie
@@ -26,19 +24,24 @@ same-length-2 c = search needs
 returns : tie.Need-returns
 returns c =
     let a = c .before .before .before .before .before .before .before .before .before .before .before .before .before .args in
+    let p = c .before .before .before .before .before .before .before .before .before .before .before .before .before .pre in
     let f = c .before .before .before .before .before .before .before .fill in
-    let store = take (a .side .kept) (a .store .now) in
-    let no = sym (f .ensures .0) ∙ not-true (f .result) (c .before .before .before .before .if1 .taken) in
-    leaves-unfilled (kept-in (a .side) (a .store .now) (a .hold .now)) (a .offset) (a .bytes .now) (a .side) (f .last .1 .0) (a .hold .now) (a .out .now) (a .at) (c .before .before .bad .result) _ no
-    (keeps (a .side) (a .side) (f .last .1 .0) (a .hold .now) store (take 576 (a .hold .now)) refl
-    (f .ensures .1 .0 ∙ cond-false (fill-fits (a .side .kept) (a .offset) (length (a .bytes .now))) (written store (a .offset) (a .bytes .now)) store no) refl)
-    (c .before .before .bad .ensures)
+    let k = kept-in (a .side) (a .store .now) (a .hold .now) in
+    let b = buffered-store (f .last .1 .0) (filled k (a .offset) (a .bytes .now)) (p .0) (f .ensures .1) (length-filled k (a .offset) (a .bytes .now) ∙ stored-bytes (p .0)) in
+    leaves-unfilled k (a .offset) (a .bytes .now) (sym (f .ensures .0) ∙ not-true (f .result) (c .before .before .before .before .if1 .taken))
+    (leaves-as (ap bad (keeps (a .side) (a .side) (f .last .1 .0) (a .hold .now) (filled k (a .offset) (a .bytes .now)) (take 576 (a .hold .now)) refl (b .1) refl)) (c .before .before .bad .ensures (f .last .1 .0) (a .hold .now) (b .0)))
 
 slice-aggregate-put-plain : tie.Need-slice-aggregate-put-plain
 slice-aggregate-put-plain c = search needs
 
 put-plain-requires : tie.Need-put-plain-requires
-put-plain-requires c κs = search needs
+put-plain-requires c κs =
+    let a = c .before .before .before .before .before .before .before .before .before .before .before .before .args in
+    let p = c .before .before .before .before .before .before .before .before .before .before .before .before .pre in
+    let f = c .before .before .before .before .before .before .fill in
+    let k = kept-in (a .side) (a .store .now) (a .hold .now) in
+    let b = buffered-store (f .last .1 .0) (filled k (a .offset) (a .bytes .now)) (p .0) (f .ensures .1) (length-filled k (a .offset) (a .bytes .now) ∙ stored-bytes (p .0)) in
+    (b .0, omega arith, p .1)
 
 same-length-3 : tie.Need-same-length-3
 same-length-3 c = search needs
@@ -49,13 +52,12 @@ same-length-4 c = search needs
 returns-2 : tie.Need-returns-2
 returns-2 c =
     let a = c .before .before .before .before .before .before .before .before .before .before .before .before .before .before .before .args in
+    let p = c .before .before .before .before .before .before .before .before .before .before .before .before .before .before .before .pre in
     let f = c .before .before .before .before .before .before .before .before .before .fill in
-    let store = take (a .side .kept) (a .store .now) in
-    let yes = sym (f .ensures .0) ∙ not-false (f .result) (c .before .before .before .before .before .before .if1 .left) in
-    leaves-filled (kept-in (a .side) (a .store .now) (a .hold .now)) (a .offset) (a .bytes .now) (a .side) (f .last .1 .0) (a .hold .now) (a .out .now) (a .at) (c .before .before .put-plain .result) _ yes
-    (keeps (a .side) (a .side) (f .last .1 .0) (a .hold .now) (written store (a .offset) (a .bytes .now)) (take 576 (a .hold .now)) refl
-    (f .ensures .1 .0 ∙ cond-true (fill-fits (a .side .kept) (a .offset) (length (a .bytes .now))) (written store (a .offset) (a .bytes .now)) store yes) refl)
-    (c .before .before .put-plain .ensures)
+    let k = kept-in (a .side) (a .store .now) (a .hold .now) in
+    let b = buffered-store (f .last .1 .0) (filled k (a .offset) (a .bytes .now)) (p .0) (f .ensures .1) (length-filled k (a .offset) (a .bytes .now) ∙ stored-bytes (p .0)) in
+    leaves-filled k (a .offset) (a .bytes .now) (sym (f .ensures .0) ∙ not-false (f .result) (c .before .before .before .before .before .before .if1 .left))
+    (leaves-stated refl (keeps (a .side) (a .side) (f .last .1 .0) (a .hold .now) (filled k (a .offset) (a .bytes .now)) (take 576 (a .hold .now)) refl (b .1) refl) (c .before .before .put-plain .ensures))
 
 pub fill-spec : {M : Type 1} → statement M
 fill-spec =

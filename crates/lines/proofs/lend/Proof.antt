@@ -1,12 +1,10 @@
 -- `lines::lend` meets its contract. Assumes nothing.
-use mathlib.Core.Path.{_≡_, refl, ap}
+use mathlib.Core.Path.{refl}
 use native.Mathlib.Omega.{arith}
 use lib.ListN.{take}
-use Rattle.sides.specs.Sides.{lends}
-use Rattle.sides.specs.declared.Side.{Side}
-use Rattle.heads.specs.Heads.{refuse}
+use Rattle.settings.specs.Settings.{lends}
 use Rattle.lines.specs.Lines.{lend-line}
-use Rattle.lines.proofs.Leaving.{keeps, leaves-stated}
+use Rattle.lines.proofs.Leaving.{buffered-lent, keeps, leaves-stated}
 use borrow.Author.Needs.{needs}
 use Rattle.lines.proofs.lend.Statement.{statement}
 use Rattle.lines.proofs.lend.Tie as tie
@@ -18,12 +16,9 @@ slice-aggregate-put-plain : tie.Need-slice-aggregate-put-plain
 slice-aggregate-put-plain c = search needs
 
 put-plain-requires : tie.Need-put-plain-requires
-unfolding lends
 put-plain-requires c κs =
-    let a = c .before .before .before .before .before .before .args in
     let p = c .before .before .before .before .before .before .pre in
-    let k : c .before .before .lend .result .kept ≡ a .side .kept = ap (λ (s : Side). s .kept) (c .before .before .lend .ensures) in
-    (omega (arith, p .0 .kept, p .1), p .2, omega (arith, p .3))
+    (buffered-lent (c .before .before .lend .ensures) (p .1) (p .2) (p .0), omega arith, p .3)
 
 same-length : tie.Need-same-length
 same-length c = search needs
@@ -33,11 +28,14 @@ unfolding lends lend-line
 returns c =
     let a = c .before .before .before .before .before .before .before .before .before .args in
     let s = c .before .before .before .before .before .lend in
-    leaves-stated (refuse "lend refuse=" 0) (refuse "lend refuse=" 0) _ (s .result) (a .store .now) (a .hold .now) (a .out .now) (a .at) (c .before .before .put-plain .result) _ refl
-    (keeps (s .result) (lends (a .side) (a .lent) (a .held)) (a .store .now) (a .hold .now) (take (a .side .kept) (a .store .now)) (take 576 (a .hold .now)) (s .ensures) refl refl)
-    (c .before .before .put-plain .ensures)
+    leaves-stated refl (keeps (s .result) (lends (a .side) (a .lent) (a .held)) (a .store .now) (a .hold .now) (take (a .side .kept) (a .store .now)) (take 576 (a .hold .now)) (s .ensures) refl refl) (c .before .before .put-plain .ensures)
 
 pub lend-spec : {M : Type 1} → statement M
 lend-spec =
     tie.close
-    (tie.spec lend-requires slice-aggregate-put-plain put-plain-requires same-length returns)
+    (tie.spec
+    lend-requires
+    slice-aggregate-put-plain
+    put-plain-requires
+    same-length
+    returns)

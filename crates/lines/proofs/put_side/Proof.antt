@@ -5,6 +5,7 @@ use native.Mathlib.Nat.{sub-zero}
 use lib.ListN.{take}
 use Rattle.text.proofs.Laws.{puts-as}
 use Rattle.show.specs.Show.{state-text}
+use Rattle.lines.proofs.Leaving.{leaves-side}
 use borrow.Author.Needs.{needs}
 use Rattle.lines.proofs.put_side.Statement.{statement}
 use Rattle.lines.proofs.put_side.Tie as tie
@@ -36,7 +37,9 @@ same-length c = search needs
 returns : tie.Need-returns
 returns c =
     let a = c .before .before .before .before .before .before .before .before .before .args in
-    puts-as (ap (λ (m : ℕ). state-text (a .side .end) (take m (a .store .now)) (take 576 (a .hold .now))) (sub-zero (a .side .kept))) (c .before .before .put-state .ensures)
+    λ head before from p.
+    leaves-side (c .before .before .before .before .before .before .before .before .before .pre .0) p
+    (puts-as (ap (λ (m : ℕ). state-text (a .side .end) (take m (a .store .now)) (take 576 (a .hold .now))) (sub-zero (a .side .kept))) (c .before .before .put-state .ensures))
 
 pub put-side-spec : {M : Type 1} → statement M
 put-side-spec =

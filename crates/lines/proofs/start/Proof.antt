@@ -1,15 +1,13 @@
 -- `lines::start` meets its contract. Assumes nothing.
-use mathlib.Core.List.{_++_}
-use mathlib.Core.Path.{_≡_, ap, _∙_}
+use mathlib.Core.Path.{ap, _∙_}
 use Prim.Native.Nat.{ℕ}
 use native.Mathlib.Omega.{arith}
-use Rattle.text.specs.Text.{ascii, decimal}
+use Rattle.text.specs.Text.{field}
 use Rattle.ends.specs.State.{verdict-number}
-use Rattle.sides.specs.Sides.{repeated, started}
+use Rattle.sides.specs.Sides.{repeated}
 use Rattle.sides.specs.declared.Took.{Took}
-use Rattle.heads.specs.Heads.{refuse}
 use Rattle.lines.specs.Lines.{start-line}
-use Rattle.lines.proofs.Leaving.{keeps, leaves-stated}
+use Rattle.lines.proofs.Leaving.{buffered-zeros, leaves-stated}
 use borrow.Author.Needs.{needs}
 use Rattle.lines.proofs.start.Statement.{statement}
 use Rattle.lines.proofs.start.Tie as tie
@@ -24,13 +22,15 @@ slice-aggregate-put-plain : tie.Need-slice-aggregate-put-plain
 slice-aggregate-put-plain c = search needs
 
 put-plain-requires : tie.Need-put-plain-requires
-unfolding started
 put-plain-requires c κs =
-    let a = c .before .before .before .before .before .before .before .before .before .before .before .before .before .before .before .before .args in
-    let p = c .before .before .before .before .before .before .before .before .before .before .before .before .before .before .before .before .pre in
-    let s = c .before .before .before .before .before .before .before .before .before .before .start in
-    let k : s .result .side .kept ≡ a .bytes = ap (λ (r : Took). r .side .kept) (s .ensures .0) in
-    (omega (arith, p .0, p .1, s .kept .0), s .kept .1 .0 ∙ p .2, omega (arith, p .3))
+    let a = c .before .before .before .before .before .before .before .before .before .before .before .before .before .before .before .args in
+    let p = c .before .before .before .before .before .before .before .before .before .before .before .before .before .before .before .pre in
+    let s = c .before .before .before .before .before .before .before .before .before .start in
+    let b =
+    buffered-zeros (a .bytes) (s .result .side) (s .last .1 .0) (s .last .1 .1 .0) (p .1) (ap (λ (r : Took). r .side) (s .ensures .0))
+    (s .ensures .1 .0 ∙ ap (λ (n : ℕ). repeated n 0) (p .0 .store-size))
+    (s .ensures .1 .1 ∙ ap (λ (n : ℕ). repeated n 0) (p .0 .hold-size)) in
+    (b .0, omega arith, p .2)
 
 same-length : tie.Need-same-length
 same-length c = search needs
@@ -42,14 +42,19 @@ same-length-3 : tie.Need-same-length-3
 same-length-3 c = search needs
 
 returns : tie.Need-returns
-unfolding started start-line
+unfolding start-line
 returns c =
-    let a = c .before .before .before .before .before .before .before .before .before .before .before .before .before .before .before .before .before .before .before .args in
-    let s = c .before .before .before .before .before .before .before .before .before .before .before .before .before .start in
+    let a = c .before .before .before .before .before .before .before .before .before .before .before .before .before .before .before .before .before .before .args in
+    let p = c .before .before .before .before .before .before .before .before .before .before .before .before .before .before .before .before .before .before .pre in
+    let s = c .before .before .before .before .before .before .before .before .before .before .before .before .start in
     let e = s .ensures .0 in
-    leaves-stated (ascii "start refuse=" ++ decimal (c .before .before .before .before .before .before .before .verdict-number .result)) _ _ (s .result .side) (s .last .0) (s .last .1 .0) (a .out .now) (a .at) (c .before .before .put-plain .result) _
-    (ap (λ (n : ℕ). refuse "start refuse=" n) (c .before .before .before .before .before .before .before .verdict-number .ensures ∙ ap (λ (r : Took). verdict-number (r .verdict)) e))
-    (keeps (s .result .side) (started (a .bytes) .side) (s .last .0) (s .last .1 .0) (repeated (a .bytes) 0) (repeated 576 0) (ap (λ (r : Took). r .side) e) (s .ensures .1 .0) (s .ensures .1 .1 .0))
+    let b =
+    buffered-zeros (a .bytes) (s .result .side) (s .last .1 .0) (s .last .1 .1 .0) (p .1) (ap (λ (r : Took). r .side) e)
+    (s .ensures .1 .0 ∙ ap (λ (n : ℕ). repeated n 0) (p .0 .store-size))
+    (s .ensures .1 .1 ∙ ap (λ (n : ℕ). repeated n 0) (p .0 .hold-size)) in
+    leaves-stated
+    (ap (λ (n : ℕ). field "start refuse=" n) (c .before .before .before .before .before .before .before .verdict-number .ensures ∙ ap (λ (r : Took). verdict-number (r .verdict)) e))
+    (b .1)
     (c .before .before .put-plain .ensures)
 
 pub start-spec : {M : Type 1} → statement M

@@ -1,96 +1,64 @@
--- `names::field_named` meets its contract, word by word, the last one first. Assumes nothing.
-use mathlib.Core.Path.{ap, _∙_}
+-- `names::field_named` meets its contract, by the place of the word. Assumes nothing.
+use mathlib.Core.List.{List, [], _∷_}
+use mathlib.Core.Path.{_≡_, refl, _∙_}
+use Prim.Native.Nat.{ℕ}
 use Rattle.text.specs.Text.{ascii}
+use Rattle.tokens.proofs.Cuts.{row, plain, all-plain}
+use Rattle.names.specs.declared.Field.{Field}
 use Rattle.names.specs.declared.Field.the-variants as field
-use Rattle.names.specs.Names.{field-or, field-of}
+use Rattle.names.specs.declared.FieldNamed.the-variants as a-field
+use Rattle.names.specs.Names.{field-or, information-of, receiving-of, field-of}
+use Rattle.names.proofs.Places.{named, known-at, none-at}
 use borrow.Author.Needs.{needs}
 use Rattle.names.proofs.field_named.Statement.{statement}
 use Rattle.names.proofs.field_named.Tie as tie
 
-receiving-named-requires : tie.Need-receiving-named-requires
-receiving-named-requires c κs = search needs
+-- the words after the first
+abbrev words : List (List ℕ)
+words =
+    ascii "first" ∷ ascii "held" ∷ ascii "kept" ∷ ascii "oldest" ∷ ascii "cursor" ∷ ascii "sent" ∷ ascii "acked" ∷ ascii "wanted" ∷
+    ascii "position" ∷ ascii "owed" ∷ ascii "stalled" ∷ ascii "data" ∷ ascii "untold" ∷ ascii "mode" ∷ ascii "cause" ∷ ascii "discards" ∷
+    ascii "pending" ∷ ascii "info0" ∷ ascii "info1" ∷ ascii "info2" ∷ ascii "info3" ∷ ascii "info4" ∷ ascii "info5" ∷ ascii "info6" ∷
+    ascii "info7" ∷ []
 
-slice-aggregate-field-or : tie.Need-slice-aggregate-field-or
-slice-aggregate-field-or c = search needs
+abbrev fields : List Field
+fields =
+    field.Capacity ∷ field.First ∷ field.Held ∷ field.Kept ∷ field.Oldest ∷ field.Cursor ∷ field.Sent ∷ field.Acked ∷ field.Wanted ∷
+    field.Position ∷ field.Owed ∷ field.Stalled ∷ field.Data ∷ field.Untold ∷ field.Mode ∷ field.Cause ∷ field.Discards ∷ field.Pending ∷
+    field.Info 0 ∷ field.Info 1 ∷ field.Info 2 ∷ field.Info 3 ∷ field.Info 4 ∷ field.Info 5 ∷ field.Info 6 ∷ field.Info 7 ∷ []
 
-field-or-requires : tie.Need-field-or-requires
-field-or-requires c κs = search needs
+by-word : (t : List ℕ) → named a-field.Known a-field.Unknown t (ascii "capacity" ∷ words) fields ≡ field-of t
+unfolding named field-of receiving-of information-of field-or
+by-word t = refl
 
-slice-aggregate-field-or-2 : tie.Need-slice-aggregate-field-or-2
-slice-aggregate-field-or-2 c = search needs
+slice-aggregate-place : tie.Need-slice-aggregate-place
+slice-aggregate-place c = search needs
 
-field-or-requires-2 : tie.Need-field-or-requires-2
-field-or-requires-2 c κs = search needs
+place-requires : tie.Need-place-requires
+place-requires c κs = search needs
 
-slice-aggregate-field-or-3 : tie.Need-slice-aggregate-field-or-3
-slice-aggregate-field-or-3 c = search needs
+mul-named : tie.Need-mul-named
+mul-named c = search needs
 
-field-or-requires-3 : tie.Need-field-or-requires-3
-field-or-requires-3 c κs = search needs
-
-slice-aggregate-field-or-4 : tie.Need-slice-aggregate-field-or-4
-slice-aggregate-field-or-4 c = search needs
-
-field-or-requires-4 : tie.Need-field-or-requires-4
-field-or-requires-4 c κs = search needs
-
-slice-aggregate-field-or-5 : tie.Need-slice-aggregate-field-or-5
-slice-aggregate-field-or-5 c = search needs
-
-field-or-requires-5 : tie.Need-field-or-requires-5
-field-or-requires-5 c κs = search needs
-
-slice-aggregate-field-or-6 : tie.Need-slice-aggregate-field-or-6
-slice-aggregate-field-or-6 c = search needs
-
-field-or-requires-6 : tie.Need-field-or-requires-6
-field-or-requires-6 c κs = search needs
-
-slice-aggregate-field-or-7 : tie.Need-slice-aggregate-field-or-7
-slice-aggregate-field-or-7 c = search needs
-
-field-or-requires-7 : tie.Need-field-or-requires-7
-field-or-requires-7 c κs = search needs
-
-slice-aggregate-field-or-8 : tie.Need-slice-aggregate-field-or-8
-slice-aggregate-field-or-8 c = search needs
-
-field-or-requires-8 : tie.Need-field-or-requires-8
-field-or-requires-8 c κs = search needs
+array-copy-out-named : tie.Need-array-copy-out-named
+array-copy-out-named c = search needs
 
 returns : tie.Need-returns
-unfolding field-of
+unfolding row plain all-plain
 returns c =
-    let t = c .before .before .before .before .before .before .before .before .before .before .before .before .before .before .before .before .before .before .args .token .now in
-    let receiving = c .before .before .before .before .before .before .before .before .before .before .before .before .before .before .before .before .receiving-named .ensures in
-    let acked = c .before .before .before .before .before .before .before .before .before .before .before .before .before .before .field-or .ensures ∙ ap (field-or t (ascii "acked") field.Acked) receiving in
-    let sent = c .before .before .before .before .before .before .before .before .before .before .before .before .field-or2 .ensures ∙ ap (field-or t (ascii "sent") field.Sent) acked in
-    let cursor = c .before .before .before .before .before .before .before .before .before .before .field-or3 .ensures ∙ ap (field-or t (ascii "cursor") field.Cursor) sent in
-    let oldest = c .before .before .before .before .before .before .before .before .field-or4 .ensures ∙ ap (field-or t (ascii "oldest") field.Oldest) cursor in
-    let kept = c .before .before .before .before .before .before .field-or5 .ensures ∙ ap (field-or t (ascii "kept") field.Kept) oldest in
-    let held = c .before .before .before .before .field-or6 .ensures ∙ ap (field-or t (ascii "held") field.Held) kept in
-    let first = c .before .before .field-or7 .ensures ∙ ap (field-or t (ascii "first") field.First) held in
-    c .field-or8 .ensures ∙ ap (field-or t (ascii "capacity") field.Capacity) first
+    let t = c .before .before .before .before .before .args .token .now in
+    let p = c .before .before .place in
+    known-at a-field.Known a-field.Unknown t (ascii "capacity") words fields (p .result) (p .ensures) refl field.Capacity refl (c .before .if1 .taken)
+    ∙ by-word t
+
+returns-2 : tie.Need-returns-2
+unfolding row plain all-plain
+returns-2 c =
+    let t = c .before .before .before .before .args .token .now in
+    let p = c .before .place in
+    none-at a-field.Known a-field.Unknown t (ascii "capacity") words fields (p .result) (p .ensures) refl (c .if1 .left) ∙ by-word t
 
 pub field-named-spec : {M : Type 1} → statement M
 field-named-spec =
     tie.close
-    (tie.spec
-    receiving-named-requires
-    slice-aggregate-field-or
-    field-or-requires
-    slice-aggregate-field-or-2
-    field-or-requires-2
-    slice-aggregate-field-or-3
-    field-or-requires-3
-    slice-aggregate-field-or-4
-    field-or-requires-4
-    slice-aggregate-field-or-5
-    field-or-requires-5
-    slice-aggregate-field-or-6
-    field-or-requires-6
-    slice-aggregate-field-or-7
-    field-or-requires-7
-    slice-aggregate-field-or-8
-    field-or-requires-8
-    returns)
+    (tie.spec slice-aggregate-place place-requires mul-named array-copy-out-named returns returns-2)

@@ -1,64 +1,54 @@
--- `names::key_named` meets its contract, word by word, the last one first. Assumes nothing.
-use mathlib.Core.Path.{ap, _∙_}
+-- `names::key_named` meets its contract, by the place of the word. Assumes nothing.
+use mathlib.Core.List.{List, [], _∷_}
+use mathlib.Core.Path.{_≡_, refl, _∙_}
+use Prim.Native.Nat.{ℕ}
 use Rattle.text.specs.Text.{ascii}
+use Rattle.tokens.proofs.Cuts.{row, plain, all-plain}
+use Rattle.names.specs.declared.Key.{Key}
 use Rattle.names.specs.declared.Key.the-variants as key
+use Rattle.names.specs.declared.KeyNamed.the-variants as a-key
 use Rattle.names.specs.Names.{key-or, key-of}
+use Rattle.names.proofs.Places.{named, known-at, none-at}
 use borrow.Author.Needs.{needs}
 use Rattle.names.proofs.key_named.Statement.{statement}
 use Rattle.names.proofs.key_named.Tie as tie
 
-slice-aggregate-key-or : tie.Need-slice-aggregate-key-or
-slice-aggregate-key-or c = search needs
+-- the words after the first
+abbrev words : List (List ℕ)
+words = ascii "delivered" ∷ ascii "damaged" ∷ ascii "duplicate" ∷ ascii "downs" ∷ []
 
-key-or-requires : tie.Need-key-or-requires
-key-or-requires c κs = search needs
+abbrev keys : List Key
+keys = key.Accepted ∷ key.Delivered ∷ key.Damaged ∷ key.Duplicate ∷ key.Downs ∷ []
 
-slice-aggregate-key-or-2 : tie.Need-slice-aggregate-key-or-2
-slice-aggregate-key-or-2 c = search needs
+by-word : (t : List ℕ) → named a-key.Known a-key.Unknown t (ascii "accepted" ∷ words) keys ≡ key-of t
+unfolding named key-of key-or
+by-word t = refl
 
-key-or-requires-2 : tie.Need-key-or-requires-2
-key-or-requires-2 c κs = search needs
+slice-aggregate-place : tie.Need-slice-aggregate-place
+slice-aggregate-place c = search needs
 
-slice-aggregate-key-or-3 : tie.Need-slice-aggregate-key-or-3
-slice-aggregate-key-or-3 c = search needs
+place-requires : tie.Need-place-requires
+place-requires c κs = search needs
 
-key-or-requires-3 : tie.Need-key-or-requires-3
-key-or-requires-3 c κs = search needs
-
-slice-aggregate-key-or-4 : tie.Need-slice-aggregate-key-or-4
-slice-aggregate-key-or-4 c = search needs
-
-key-or-requires-4 : tie.Need-key-or-requires-4
-key-or-requires-4 c κs = search needs
-
-slice-aggregate-key-or-5 : tie.Need-slice-aggregate-key-or-5
-slice-aggregate-key-or-5 c = search needs
-
-key-or-requires-5 : tie.Need-key-or-requires-5
-key-or-requires-5 c κs = search needs
+array-copy-out-named : tie.Need-array-copy-out-named
+array-copy-out-named c = search needs
 
 returns : tie.Need-returns
-unfolding key-of
+unfolding row plain all-plain
 returns c =
-    let t = c .before .before .before .before .before .before .before .before .before .before .before .args .token .now in
-    let downs = c .before .before .before .before .before .before .before .before .key-or .ensures in
-    let duplicate = c .before .before .before .before .before .before .key-or2 .ensures ∙ ap (key-or t (ascii "duplicate") key.Duplicate) downs in
-    let damaged = c .before .before .before .before .key-or3 .ensures ∙ ap (key-or t (ascii "damaged") key.Damaged) duplicate in
-    let delivered = c .before .before .key-or4 .ensures ∙ ap (key-or t (ascii "delivered") key.Delivered) damaged in
-    c .key-or5 .ensures ∙ ap (key-or t (ascii "accepted") key.Accepted) delivered
+    let t = c .before .before .before .before .before .args .token .now in
+    let p = c .before .before .place in
+    known-at a-key.Known a-key.Unknown t (ascii "accepted") words keys (p .result) (p .ensures) refl key.Accepted refl (c .before .if1 .taken)
+    ∙ by-word t
+
+returns-2 : tie.Need-returns-2
+unfolding row plain all-plain
+returns-2 c =
+    let t = c .before .before .before .before .args .token .now in
+    let p = c .before .place in
+    none-at a-key.Known a-key.Unknown t (ascii "accepted") words keys (p .result) (p .ensures) refl (c .if1 .left) ∙ by-word t
 
 pub key-named-spec : {M : Type 1} → statement M
 key-named-spec =
     tie.close
-    (tie.spec
-    slice-aggregate-key-or
-    key-or-requires
-    slice-aggregate-key-or-2
-    key-or-requires-2
-    slice-aggregate-key-or-3
-    key-or-requires-3
-    slice-aggregate-key-or-4
-    key-or-requires-4
-    slice-aggregate-key-or-5
-    key-or-requires-5
-    returns)
+    (tie.spec slice-aggregate-place place-requires array-copy-out-named returns returns-2)

@@ -1,9 +1,42 @@
--- `names::most` meets its contract, field by field. Assumes nothing.
-use mathlib.Core.Path.{ap, sym}
+-- `names::most` meets its contract, by the fields of each arm. Assumes nothing.
+use mathlib.Core.List.{List, [], _∷_}
+use mathlib.Core.Path.{_≡_, refl, ap, sym}
+use Prim.Native.Nat.{ℕ}
+use types.Run.{OneOf, miss}
+use denote.Enum.Declared.{tagOf}
+use Rattle.names.specs.declared.Field.{Field}
+use Rattle.names.specs.declared.Field.the-variants as field
 use Rattle.names.specs.Names.{most}
+use Rattle.names.proofs.Field.{the-type}
 use borrow.Author.Needs.{needs}
 use Rattle.names.proofs.most.Statement.{statement}
 use Rattle.names.proofs.most.Tie as tie
+
+-- the fields of sixteen bits, by their places among the variants
+abbrev wide : List ℕ
+wide = 0 ∷ 1 ∷ 2 ∷ 3 ∷ 4 ∷ 5 ∷ 6 ∷ 7 ∷ 8 ∷ 9 ∷ 10 ∷ 12 ∷ 13 ∷ 16 ∷ []
+
+most-wide : (f : Field) → OneOf wide (tagOf the-type f) → 65535 ≡ most f
+unfolding most
+most-wide field.Capacity h = refl
+most-wide field.First h = refl
+most-wide field.Held h = refl
+most-wide field.Kept h = refl
+most-wide field.Oldest h = refl
+most-wide field.Cursor h = refl
+most-wide field.Sent h = refl
+most-wide field.Acked h = refl
+most-wide field.Wanted h = refl
+most-wide field.Position h = refl
+most-wide field.Owed h = refl
+most-wide field.Stalled h = absurd (miss wide 11 tt h)
+most-wide field.Data h = refl
+most-wide field.Untold h = refl
+most-wide field.Mode h = absurd (miss wide 14 tt h)
+most-wide field.Cause h = absurd (miss wide 15 tt h)
+most-wide field.Discards h = refl
+most-wide field.Pending h = absurd (miss wide 17 tt h)
+most-wide (field.Info i) h = absurd (miss wide 18 tt h)
 
 enum-told : tie.Need-enum-told
 enum-told c = search needs
@@ -19,48 +52,6 @@ enum-told-4 c = search needs
 
 enum-told-5 : tie.Need-enum-told-5
 enum-told-5 c = search needs
-
-enum-told-6 : tie.Need-enum-told-6
-enum-told-6 c = search needs
-
-enum-told-7 : tie.Need-enum-told-7
-enum-told-7 c = search needs
-
-enum-told-8 : tie.Need-enum-told-8
-enum-told-8 c = search needs
-
-enum-told-9 : tie.Need-enum-told-9
-enum-told-9 c = search needs
-
-enum-told-10 : tie.Need-enum-told-10
-enum-told-10 c = search needs
-
-enum-told-11 : tie.Need-enum-told-11
-enum-told-11 c = search needs
-
-enum-told-12 : tie.Need-enum-told-12
-enum-told-12 c = search needs
-
-enum-told-13 : tie.Need-enum-told-13
-enum-told-13 c = search needs
-
-enum-told-14 : tie.Need-enum-told-14
-enum-told-14 c = search needs
-
-enum-told-15 : tie.Need-enum-told-15
-enum-told-15 c = search needs
-
-enum-told-16 : tie.Need-enum-told-16
-enum-told-16 c = search needs
-
-enum-told-17 : tie.Need-enum-told-17
-enum-told-17 c = search needs
-
-enum-told-18 : tie.Need-enum-told-18
-enum-told-18 c = search needs
-
-enum-told-19 : tie.Need-enum-told-19
-enum-told-19 c = search needs
 
 returns : tie.Need-returns
 unfolding most
@@ -83,60 +74,7 @@ unfolding most
 returns-5 c = sym (ap most (c .enum-told5 .given .1))
 
 returns-6 : tie.Need-returns-6
-unfolding most
-returns-6 c = sym (ap most (c .enum-told6 .given .1))
-
-returns-7 : tie.Need-returns-7
-unfolding most
-returns-7 c = sym (ap most (c .enum-told7 .given .1))
-
-returns-8 : tie.Need-returns-8
-unfolding most
-returns-8 c = sym (ap most (c .enum-told8 .given .1))
-
-returns-9 : tie.Need-returns-9
-unfolding most
-returns-9 c = sym (ap most (c .enum-told9 .given .1))
-
-returns-10 : tie.Need-returns-10
-unfolding most
-returns-10 c = sym (ap most (c .enum-told10 .given .1))
-
-returns-11 : tie.Need-returns-11
-unfolding most
-returns-11 c = sym (ap most (c .enum-told11 .given .1))
-
-returns-12 : tie.Need-returns-12
-unfolding most
-returns-12 c = sym (ap most (c .enum-told12 .given .1))
-
-returns-13 : tie.Need-returns-13
-unfolding most
-returns-13 c = sym (ap most (c .enum-told13 .given .1))
-
-returns-14 : tie.Need-returns-14
-unfolding most
-returns-14 c = sym (ap most (c .enum-told14 .given .1))
-
-returns-15 : tie.Need-returns-15
-unfolding most
-returns-15 c = sym (ap most (c .enum-told15 .given .1))
-
-returns-16 : tie.Need-returns-16
-unfolding most
-returns-16 c = sym (ap most (c .enum-told16 .given .1))
-
-returns-17 : tie.Need-returns-17
-unfolding most
-returns-17 c = sym (ap most (c .enum-told17 .given .1))
-
-returns-18 : tie.Need-returns-18
-unfolding most
-returns-18 c = sym (ap most (c .enum-told18 .given .1))
-
-returns-19 : tie.Need-returns-19
-unfolding most
-returns-19 c = sym (ap most (c .enum-told19 .given .1))
+returns-6 c = most-wide (c .before .args .f) (c .match .keys6)
 
 pub most-spec : {M : Type 1} → statement M
 most-spec =
@@ -147,36 +85,9 @@ most-spec =
     enum-told-3
     enum-told-4
     enum-told-5
-    enum-told-6
-    enum-told-7
-    enum-told-8
-    enum-told-9
-    enum-told-10
-    enum-told-11
-    enum-told-12
-    enum-told-13
-    enum-told-14
-    enum-told-15
-    enum-told-16
-    enum-told-17
-    enum-told-18
-    enum-told-19
     returns
     returns-2
     returns-3
     returns-4
     returns-5
-    returns-6
-    returns-7
-    returns-8
-    returns-9
-    returns-10
-    returns-11
-    returns-12
-    returns-13
-    returns-14
-    returns-15
-    returns-16
-    returns-17
-    returns-18
-    returns-19)
+    returns-6)

@@ -1,16 +1,25 @@
 -- `pokes::poked` meets its contract, field by field. Assumes nothing.
-use mathlib.Core.Path.{sym, ap, subst, _∙_}
+use mathlib.Core.List.{List}
+use mathlib.Core.Path.{_≡_, refl, ap, sym, _∙_}
 use Prim.Native.Nat.{ℕ, _≤_}
 use native.Mathlib.Omega.{arith}
 use Rattle.names.specs.Names.{most}
 use Rattle.names.specs.declared.Field.{Field}
-use mathlib.Core.List.{List}
 use Rattle.ends.specs.Update.{with-mode, with-information}
+use Rattle.ends.specs.declared.state.End.{End}
 use Rattle.ends.specs.declared.state.Mode.{Mode}
 use Rattle.pokes.specs.Pokes.{poked}
 use borrow.Author.Needs.{needs}
 use Rattle.pokes.proofs.poked.Statement.{statement}
 use Rattle.pokes.proofs.poked.Tie as tie
+
+-- a field that is told to be g
+module _ {f g : Field} where
+  at-field : (e : End) (v : ℕ) → f ≡ g → poked e g v ≡ poked e f v
+  at-field e v told = ap (λ (x : Field). poked e x v) (sym told)
+
+  within : (m v : ℕ) → f ≡ g → v ≤ most f → most g ≡ m → v ≤ m
+  within m v told h k = omega (arith, ap most told)
 
 enum-told : tie.Need-enum-told
 enum-told c = search needs
@@ -29,54 +38,42 @@ enum-told-5 c = search needs
 
 cast-number : tie.Need-cast-number
 unfolding most
-cast-number c =
-    let h : c .before .before .args .value ≤ 65535 = subst (λ (f : Field). c .before .before .args .value ≤ most f) (c .enum-told5 .given .1) (c .before .before .pre) in
-    record { fits = omega arith }
+cast-number c = let h = within 65535 (c .before .before .args .value) (c .enum-told5 .given .1) (c .before .before .pre) refl in record { fits = omega arith }
 
 enum-told-6 : tie.Need-enum-told-6
 enum-told-6 c = search needs
 
 cast-number-2 : tie.Need-cast-number-2
 unfolding most
-cast-number-2 c =
-    let h : c .before .before .args .value ≤ 65535 = subst (λ (f : Field). c .before .before .args .value ≤ most f) (c .enum-told6 .given .1) (c .before .before .pre) in
-    record { fits = omega arith }
+cast-number-2 c = let h = within 65535 (c .before .before .args .value) (c .enum-told6 .given .1) (c .before .before .pre) refl in record { fits = omega arith }
 
 enum-told-7 : tie.Need-enum-told-7
 enum-told-7 c = search needs
 
 cast-number-3 : tie.Need-cast-number-3
 unfolding most
-cast-number-3 c =
-    let h : c .before .before .args .value ≤ 65535 = subst (λ (f : Field). c .before .before .args .value ≤ most f) (c .enum-told7 .given .1) (c .before .before .pre) in
-    record { fits = omega arith }
+cast-number-3 c = let h = within 65535 (c .before .before .args .value) (c .enum-told7 .given .1) (c .before .before .pre) refl in record { fits = omega arith }
 
 enum-told-8 : tie.Need-enum-told-8
 enum-told-8 c = search needs
 
 cast-number-4 : tie.Need-cast-number-4
 unfolding most
-cast-number-4 c =
-    let h : c .before .before .args .value ≤ 65535 = subst (λ (f : Field). c .before .before .args .value ≤ most f) (c .enum-told8 .given .1) (c .before .before .pre) in
-    record { fits = omega arith }
+cast-number-4 c = let h = within 65535 (c .before .before .args .value) (c .enum-told8 .given .1) (c .before .before .pre) refl in record { fits = omega arith }
 
 enum-told-9 : tie.Need-enum-told-9
 enum-told-9 c = search needs
 
 cast-number-5 : tie.Need-cast-number-5
 unfolding most
-cast-number-5 c =
-    let h : c .before .before .args .value ≤ 65535 = subst (λ (f : Field). c .before .before .args .value ≤ most f) (c .enum-told9 .given .1) (c .before .before .pre) in
-    record { fits = omega arith }
+cast-number-5 c = let h = within 65535 (c .before .before .args .value) (c .enum-told9 .given .1) (c .before .before .pre) refl in record { fits = omega arith }
 
 enum-told-10 : tie.Need-enum-told-10
 enum-told-10 c = search needs
 
 cast-number-6 : tie.Need-cast-number-6
 unfolding most
-cast-number-6 c =
-    let h : c .before .before .args .value ≤ 65535 = subst (λ (f : Field). c .before .before .args .value ≤ most f) (c .enum-told10 .given .1) (c .before .before .pre) in
-    record { fits = omega arith }
+cast-number-6 c = let h = within 65535 (c .before .before .args .value) (c .enum-told10 .given .1) (c .before .before .pre) refl in record { fits = omega arith }
 
 enum-told-11 : tie.Need-enum-told-11
 enum-told-11 c = search needs
@@ -104,9 +101,7 @@ enum-told-16 c = search needs
 
 cast-next : tie.Need-cast-next
 unfolding most
-cast-next c =
-    let h : c .before .before .args .value ≤ 255 = subst (λ (f : Field). c .before .before .args .value ≤ most f) (c .enum-told16 .given .1) (c .before .before .pre) in
-    record { fits = omega arith }
+cast-next c = let h = within 255 (c .before .before .args .value) (c .enum-told16 .given .1) (c .before .before .pre) refl in record { fits = omega arith }
 
 enum-told-17 : tie.Need-enum-told-17
 enum-told-17 c = search needs
@@ -122,84 +117,86 @@ with-place-requires c κs = search needs
 
 returns : tie.Need-returns
 unfolding poked
-returns c = ap (λ (f : Field). poked (c .before .before .args .e) f (c .before .before .args .value)) (sym (c .enum-told .given .1))
+returns c = at-field (c .before .before .args .e) (c .before .before .args .value) (c .enum-told .given .1)
 
 returns-2 : tie.Need-returns-2
 unfolding poked
-returns-2 c = ap (λ (f : Field). poked (c .before .before .args .e) f (c .before .before .args .value)) (sym (c .enum-told2 .given .1))
+returns-2 c = at-field (c .before .before .args .e) (c .before .before .args .value) (c .enum-told2 .given .1)
 
 returns-3 : tie.Need-returns-3
 unfolding poked
-returns-3 c = ap (λ (f : Field). poked (c .before .before .args .e) f (c .before .before .args .value)) (sym (c .enum-told3 .given .1))
+returns-3 c = at-field (c .before .before .args .e) (c .before .before .args .value) (c .enum-told3 .given .1)
 
 returns-4 : tie.Need-returns-4
 unfolding poked
-returns-4 c = ap (λ (f : Field). poked (c .before .before .args .e) f (c .before .before .args .value)) (sym (c .enum-told4 .given .1))
+returns-4 c = at-field (c .before .before .args .e) (c .before .before .args .value) (c .enum-told4 .given .1)
 
 returns-5 : tie.Need-returns-5
 unfolding poked
-returns-5 c = ap (λ (f : Field). poked (c .before .before .args .e) f (c .before .before .args .value)) (sym (c .enum-told5 .given .1))
+returns-5 c = at-field (c .before .before .args .e) (c .before .before .args .value) (c .enum-told5 .given .1)
 
 returns-6 : tie.Need-returns-6
 unfolding poked
-returns-6 c = ap (λ (f : Field). poked (c .before .before .args .e) f (c .before .before .args .value)) (sym (c .enum-told6 .given .1))
+returns-6 c = at-field (c .before .before .args .e) (c .before .before .args .value) (c .enum-told6 .given .1)
 
 returns-7 : tie.Need-returns-7
 unfolding poked
-returns-7 c = ap (λ (f : Field). poked (c .before .before .args .e) f (c .before .before .args .value)) (sym (c .enum-told7 .given .1))
+returns-7 c = at-field (c .before .before .args .e) (c .before .before .args .value) (c .enum-told7 .given .1)
 
 returns-8 : tie.Need-returns-8
 unfolding poked
-returns-8 c = ap (λ (f : Field). poked (c .before .before .args .e) f (c .before .before .args .value)) (sym (c .enum-told8 .given .1))
+returns-8 c = at-field (c .before .before .args .e) (c .before .before .args .value) (c .enum-told8 .given .1)
 
 returns-9 : tie.Need-returns-9
 unfolding poked
-returns-9 c = ap (λ (f : Field). poked (c .before .before .args .e) f (c .before .before .args .value)) (sym (c .enum-told9 .given .1))
+returns-9 c = at-field (c .before .before .args .e) (c .before .before .args .value) (c .enum-told9 .given .1)
 
 returns-10 : tie.Need-returns-10
 unfolding poked
-returns-10 c = ap (λ (f : Field). poked (c .before .before .args .e) f (c .before .before .args .value)) (sym (c .enum-told10 .given .1))
+returns-10 c = at-field (c .before .before .args .e) (c .before .before .args .value) (c .enum-told10 .given .1)
 
 returns-11 : tie.Need-returns-11
 unfolding poked
-returns-11 c = ap (λ (f : Field). poked (c .before .before .args .e) f (c .before .before .args .value)) (sym (c .enum-told11 .given .1))
+returns-11 c = at-field (c .before .before .args .e) (c .before .before .args .value) (c .enum-told11 .given .1)
 
 returns-12 : tie.Need-returns-12
 unfolding poked
-returns-12 c = ap (λ (f : Field). poked (c .before .before .args .e) f (c .before .before .args .value)) (sym (c .enum-told12 .given .1))
+returns-12 c = at-field (c .before .before .args .e) (c .before .before .args .value) (c .enum-told12 .given .1)
 
 returns-13 : tie.Need-returns-13
 unfolding poked
-returns-13 c = ap (λ (f : Field). poked (c .before .before .args .e) f (c .before .before .args .value)) (sym (c .enum-told13 .given .1))
+returns-13 c = at-field (c .before .before .args .e) (c .before .before .args .value) (c .enum-told13 .given .1)
 
 returns-14 : tie.Need-returns-14
 unfolding poked
-returns-14 c = ap (λ (f : Field). poked (c .before .before .args .e) f (c .before .before .args .value)) (sym (c .enum-told14 .given .1))
+returns-14 c = at-field (c .before .before .args .e) (c .before .before .args .value) (c .enum-told14 .given .1)
 
 returns-15 : tie.Need-returns-15
 unfolding poked
 returns-15 c =
+    let a = c .before .before .before .before .args in
     c .with-mode .ensures
-    ∙ ap (λ (m : Mode). with-mode m (c .before .before .before .before .args .e)) (c .before .mode-of .ensures)
-    ∙ ap (λ (f : Field). poked (c .before .before .before .before .args .e) f (c .before .before .before .before .args .value)) (sym (c .before .before .enum-told15 .given .1))
+    ∙ ap (λ (m : Mode). with-mode m (a .e)) (c .before .mode-of .ensures)
+    ∙ at-field (a .e) (a .value) (c .before .before .enum-told15 .given .1)
 
 returns-16 : tie.Need-returns-16
 unfolding poked
-returns-16 c = ap (λ (f : Field). poked (c .before .before .args .e) f (c .before .before .args .value)) (sym (c .enum-told16 .given .1))
+returns-16 c = at-field (c .before .before .args .e) (c .before .before .args .value) (c .enum-told16 .given .1)
 
 returns-17 : tie.Need-returns-17
 unfolding poked
-returns-17 c = ap (λ (f : Field). poked (c .before .before .args .e) f (c .before .before .args .value)) (sym (c .enum-told17 .given .1))
+returns-17 c = at-field (c .before .before .args .e) (c .before .before .args .value) (c .enum-told17 .given .1)
 
 returns-18 : tie.Need-returns-18
 unfolding poked
-returns-18 c = ap (λ (f : Field). poked (c .before .before .args .e) f (c .before .before .args .value)) (sym (c .enum-told18 .given .1))
+returns-18 c = at-field (c .before .before .args .e) (c .before .before .args .value) (c .enum-told18 .given .1)
 
 returns-19 : tie.Need-returns-19
 unfolding poked
 returns-19 c =
-    ap (λ (x : List ℕ). with-information x (c .before .before .before .before .before .args .e)) (c .with-place .ensures)
-    ∙ ap (λ (f : Field). poked (c .before .before .before .before .before .args .e) f (c .before .before .before .before .before .args .value)) (sym (c .before .before .before .field .given .1))
+    let a = c .before .before .before .before .before .args in
+    ap (λ (x : List ℕ). with-information x (a .e)) (c .with-place .ensures)
+    ∙ at-field (a .e) (a .value) (c .before .before .before .field .given .1)
 
 pub poked-spec : {M : Type 1} → statement M
 poked-spec =

@@ -1,14 +1,11 @@
 -- `script::after_word` meets its contract, by the end that is named. Assumes nothing.
-use mathlib.Core.Bool.{false}
 use mathlib.Core.List.{List, [], _∷_}
 use mathlib.Core.Path.{_≡_, ap, sym, _∙_}
 use Prim.Native.Nat.{ℕ, _+_}
 use native.Mathlib.Nat.{sub-zero}
 use native.Mathlib.Omega.{arith}
-use lib.Dec.{ltb}
-use lib.ListN.{length, take, drop}
+use lib.ListN.{take, drop}
 use lib.Seq.{take-all}
-use borrow.Author.Tests.{ltb-false}
 use Rattle.tokens.specs.Tokens.{tokens, last, over}
 use Rattle.tokens.proofs.Cuts.{to-end, tokens-more, tokens-one}
 use Rattle.names.specs.declared.EndNamed.the-variants as an-end
@@ -73,9 +70,8 @@ returns c =
     let a = c .before .before .before .before .before .before .before .before .before .args in
     let r = a .rest .now in
     let f = c .before .before .before .before .before .first-token in
-    let whole : ltb (f .result) (length r) ≡ false → take (f .result) r ≡ r = λ h. take-all (f .result) r (ltb-false (f .result) (length r) h) in
     let e =
-    line-nowhere (a .op .now) r (take (f .result) r) (tokens (drop (f .result + 1) r)) (ltb (f .result) (length r)) (f .ensures .1) whole
+    line-nowhere (a .op .now) r (f .result) (f .ensures .1)
     (sym (simp sub-zero at (c .before .before .before .end-named .ensures)) ∙ c .before .enum-told .given .1)
     in
     (c .for-end .ensures ∙ sym e, sym (ap (λ (l : Line). over (carried (l .command) (last (tokens r))) (a .bytes .now)) e ∙ bad-over (last (tokens r)) (a .bytes .now)))

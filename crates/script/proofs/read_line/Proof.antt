@@ -1,12 +1,13 @@
 -- `script::read_line` meets its contract: a line of one token is bad. Assumes nothing.
-use mathlib.Core.List.{[], _∷_}
-use mathlib.Core.Path.{sym}
-use native.Mathlib.Nat.{sub-zero}
+use mathlib.Core.List.{List, [], _∷_}
+use mathlib.Core.Path.{ap, sym, _∙_}
+use Prim.Native.Nat.{ℕ, _+_, _-_}
 use native.Mathlib.Omega.{arith}
-use Rattle.tokens.specs.Tokens.{last}
-use Rattle.tokens.proofs.Cuts.{to-end, tokens-more, tokens-one, last-tokens}
-use Rattle.script.specs.Script.{line-of, bytes-of}
-use Rattle.script.proofs.Lines.{line-bare, bad-over}
+use lib.ListN.{length, take, drop}
+use Rattle.tokens.specs.Tokens.{tokens, last}
+use Rattle.tokens.proofs.Cuts.{tokens-cut, tokens-one}
+use Rattle.script.specs.Script.{line-from, line-of, bytes-of}
+use Rattle.script.proofs.Lines.{line-bare, bad-over, written-more}
 use borrow.Author.Needs.{needs}
 use Rattle.script.proofs.read_line.Statement.{statement}
 use Rattle.script.proofs.read_line.Tie as tie
@@ -47,11 +48,13 @@ same-length c = search needs
 returns : tie.Need-returns
 unfolding line-of bytes-of
 returns c =
-    let s = c .before .before .before .before .before .before .before .before .before .before .args .line .now in
+    let a = c .before .before .before .before .before .before .before .before .before .before .args in
+    let s = a .line .now in
     let f = c .before .before .before .before .before .before .before .first-token in
     let w = c .before .before .after-word in
-    let e = tokens-more s (f .result) (f .ensures .1) (c .before .before .before .before .before .before .if1 .taken) in
-    (rw e (simp (sub-zero, to-end) at (w .ensures .0)), rw (e, last-tokens) (simp (sub-zero, to-end) at (w .ensures .1)))
+    let rest = take (length s - (f .result + 1)) (drop (f .result + 1) s) in
+    let e = tokens-cut s (f .result) (f .ensures .1) (c .before .before .before .before .before .before .if1 .taken) in
+    (w .ensures .0 ∙ ap line-from (sym e), written-more (λ (ts : List (List ℕ)). line-from ts .command) (a .bytes .now) (tokens s) (take (f .result - 0) s) rest e (w .ensures .1))
 
 returns-2 : tie.Need-returns-2
 unfolding line-of bytes-of

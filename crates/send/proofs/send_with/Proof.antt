@@ -7,7 +7,8 @@ use borrow.Author.Needs.{needs}
 use lib.ListN.{length, drop}
 use Rattle.ends.specs.declared.state.End.{End}
 use Rattle.ends.specs.declared.state.Verdict.the-variants.{Refused, Admitted}
-use Rattle.burst.specs.Burst.{burst, burst-flits, moved}
+use Rattle.moves.specs.Moves.{moved}
+use Rattle.burst.specs.Burst.{burst, burst-flits}
 use Rattle.send.specs.Send.{verdict}
 use Rattle.send.specs.declared.Answer.the-variants as answer
 use Rattle.send.specs.declared.Sent.{Sent}

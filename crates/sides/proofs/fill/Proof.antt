@@ -8,17 +8,20 @@ use Rattle.sides.proofs.fill.Tie as tie
 returns : tie.Need-returns
 returns c =
     let a = c .before .before .before .args in
-    fill-none (a .store .now) (a .kept) (a .offset) (a .bytes .now) (omega arith) (c .if1 .taken)
+    let p = c .before .before .before .pre in
+    fill-none (a .store .now) (a .kept) (a .offset) (a .bytes .now) (p .0) (p .1) (c .if1 .taken)
 
 returns-2 : tie.Need-returns-2
 returns-2 c =
     let a = c .before .before .before .before .args in
-    fill-not (a .store .now) (a .kept) (a .offset) (a .bytes .now) (c .before .if1 .left) (omega arith)
+    let p = c .before .before .before .before .pre in
+    fill-not (a .store .now) (a .kept) (a .offset) (a .bytes .now) (p .0) (p .1) (c .before .if1 .left) (omega arith)
 
 returns-3 : tie.Need-returns-3
 returns-3 c =
     let a = c .before .before .before .before .before .args in
-    fill-not (a .store .now) (a .kept) (a .offset) (a .bytes .now) (c .before .before .if1 .left) (omega arith)
+    let p = c .before .before .before .before .before .pre in
+    fill-not (a .store .now) (a .kept) (a .offset) (a .bytes .now) (p .0) (p .1) (c .before .before .if1 .left) (omega arith)
 
 sub-put : tie.Need-sub-put
 sub-put c = search needs
@@ -38,8 +41,9 @@ same-length c = search needs
 returns-4 : tie.Need-returns-4
 returns-4 c =
     let a = c .before .before .before .before .before .before .before .before .before .args in
-    let p = c .before .before .put in
-    fill-does (a .store .now) (a .kept) (a .offset) (a .bytes .now) (p .last .0) (omega arith) (c .before .before .before .before .before .before .if1 .left) (omega arith) (p .ensures .bytes)
+    let p = c .before .before .before .before .before .before .before .before .before .pre in
+    let f = c .before .before .put in
+    fill-does (a .store .now) (a .kept) (a .offset) (a .bytes .now) (p .0) (p .1) (f .last .0) (c .before .before .before .before .before .before .if1 .left) (omega arith) (f .ensures .bytes)
 
 pub fill-spec : {M : Type 1} → statement M
 fill-spec =

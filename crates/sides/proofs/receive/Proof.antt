@@ -1,21 +1,15 @@
--- `sides::receive` meets its contract: receive with what is lent of the store and of the hold, and the ticket after it. Assumes nothing.
-use mathlib.Core.Path.{sym, ap, _∙_}
+-- `sides::receive` meets its contract: receive with what is lent of the store and of the hold, the ticket after it, and the hold's buffer
+-- clean again. Assumes nothing.
 use Prim.Native.Nat.{_-_}
+use lib.ListN.{take}
+use lib.Seq.{length-front}
 use native.Mathlib.Omega.{arith}
-use borrow.Rule.Slice.PartMut.{same-len-mid}
-use lib.ListN.{length, take}
 use Rattle.sides.specs.Sides.{receives-hold}
-use Rattle.sides.proofs.Lent.{length-lent, lent-part, over-part, back-part}
+use Rattle.sides.proofs.Lent.{lent-part, left-clean, left-part}
 use Rattle.sides.proofs.Calls.{received-is, held-is}
 use borrow.Author.Needs.{needs}
 use Rattle.sides.proofs.receive.Statement.{statement}
 use Rattle.sides.proofs.receive.Tie as tie
-
-clear-past-requires : tie.Need-clear-past-requires
-clear-past-requires c κs = search needs
-
-clear-past-requires-2 : tie.Need-clear-past-requires-2
-clear-past-requires-2 c κs = search needs
 
 sub-receive-with : tie.Need-sub-receive-with
 sub-receive-with c = search needs
@@ -38,52 +32,48 @@ part-receive-with-end-2 c = search needs
 receive-with-requires : tie.Need-receive-with-requires
 receive-with-requires c κs = search needs
 
+clear-requires : tie.Need-clear-requires
+clear-requires c κs =
+    let a = c .before .before .before .before .before .before .before .before .before .args in
+    let p = c .before .before .before .before .before .before .before .before .before .pre in
+    let called = c .before .before .before .receive-with in
+    let l = called .kept .1 .1 .1 .0 in
+    let n = length-front (a .hold .now) (called .last .1 .1 .1 .0) (a .side .hold - 0) l in
+    (omega (arith, n, p .4), omega (arith, n, p .5), left-clean (a .hold .now) 576 (a .side .hold) (p .4) (p .5) (p .6) (called .last .1 .1 .1 .0) l)
+
 after-receive-requires : tie.Need-after-receive-requires
 after-receive-requires c κs = search needs
 
-received-with-requires : tie.Need-received-with-requires
-received-with-requires c κs = search needs
+after-call-requires : tie.Need-after-call-requires
+after-call-requires c κs = search needs
 
 same-length : tie.Need-same-length
-same-length c = c .before .before .before .before .before .before .before .before .before .before .before .before .before .before .clear-past .kept .0
-
-same-length-2 : tie.Need-same-length-2
-same-length-2 c =
-    let a = c .before .before .before .before .before .before .before .before .before .before .before .before .before .before .before .before .before .before .before .args in
-    let cleared = c .before .before .before .before .before .before .before .before .before .before .clear-past2 in
-    let called = c .before .before .before .before .receive-with in
-    same-len-mid 0 (a .side .hold - 0) (cleared .last .0) (called .last .1 .1 .1 .0) (called .kept .1 .1 .1 .0) ∙ cleared .kept .0
+same-length c = search needs
 
 returns : tie.Need-returns
 unfolding receives-hold
 returns c =
-    let a = c .before .before .before .before .before .before .before .before .before .before .before .before .before .before .before .before .before .before .before .args in
-    let p = c .before .before .before .before .before .before .before .before .before .before .before .before .before .before .before .before .before .before .before .pre in
-    let of-store = c .before .before .before .before .before .before .before .before .before .before .before .before .before .before .clear-past in
-    let of-hold = c .before .before .before .before .before .before .before .before .before .before .clear-past2 in
-    let called = c .before .before .before .before .receive-with in
+    let a = c .before .before .before .before .before .before .before .before .before .before .before .before .before .before .args in
+    let p = c .before .before .before .before .before .before .before .before .before .before .before .before .before .before .pre in
+    let called = c .before .before .before .before .before .before .before .before .receive-with in
+    let cleared = c .before .before .before .before .clear in
     let store = take (a .side .kept) (a .store .now) in
     let hold = take 576 (a .hold .now) in
-    let l = lent-part (of-store .last .0) (a .store .now) store (a .side .store) (of-store .ensures .0) in
-    let m = lent-part (of-hold .last .0) (a .hold .now) hold (a .side .hold) (of-hold .ensures .0) in
-    let left =
-    held-is (a .side) store (take (a .side .store - 0) (of-store .last .0)) l hold (take (a .side .hold - 0) (of-hold .last .0)) (a .flit .now) (called .last .1 .1 .1 .0) m (called .ensures .1) in
-    let whole = over-part (of-hold .last .0) (a .hold .now) hold (called .last .1 .1 .1 .0) _ (a .side .hold) (of-hold .ensures .0) (called .kept .1 .1 .1 .0) left in
-    let lent-length = sym (ap length left) ∙ called .kept .1 .1 .1 .0 ∙ ap length m ∙ length-lent (a .side .hold) hold in (
-      received-is (a .side) store (take (a .side .store - 0) (of-store .last .0)) l hold (take (a .side .hold - 0) (of-hold .last .0)) (a .flit .now) (called .result) (c .before .after-receive .result)
-          (c .received-with .result) m (called .ensures .0) (c .before .after-receive .ensures) (c .received-with .ensures),
-      (
-        of-store .ensures .1,
-        (ap (take 576) whole ∙ back-part (a .hold .now) _ 576 (p .3) (omega (arith, lent-length, p .4)), (of-store .ensures .0, whole)),
-      ),
+    let lent = take (a .side .store - 0) (a .store .now) in
+    let held = take (a .side .hold - 0) (a .hold .now) in
+    let l = lent-part (a .store .now) (a .side .kept) (a .side .store) (p .1) (p .2) (p .3) in
+    let m = lent-part (a .hold .now) 576 (a .side .hold) (p .4) (p .5) (p .6) in
+    let left = held-is (a .side) store lent l hold held m (a .flit .now) (called .last .1 .1 .1 .0) (called .ensures .1) in (
+      received-is (a .side) store lent l hold held m (a .flit .now) (called .result) (c .before .after-receive .result) (c .after-call .result)
+          (called .ensures .0) (c .before .after-receive .ensures) (c .after-call .ensures),
+      left-part (a .hold .now) 576 (a .side .hold) (p .4) (p .5) (p .6) (called .last .1 .1 .1 .0) (called .kept .1 .1 .1 .0) _ (cleared .last .0) left
+          (cleared .ensures),
     )
 
 pub receive-spec : {M : Type 1} → statement M
 receive-spec =
     tie.close
     (tie.spec
-    clear-past-requires
-    clear-past-requires-2
     sub-receive-with
     part-receive-with-start
     part-receive-with-end
@@ -91,8 +81,8 @@ receive-spec =
     part-receive-with-start-2
     part-receive-with-end-2
     receive-with-requires
+    clear-requires
     after-receive-requires
-    received-with-requires
+    after-call-requires
     same-length
-    same-length-2
     returns)

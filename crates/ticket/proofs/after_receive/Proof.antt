@@ -1,9 +1,9 @@
 -- `ticket::after_receive` meets its contract, answer by answer. Assumes nothing.
-use mathlib.Core.Path.{ap}
+use mathlib.Core.Path.{_≡_, ap}
 use Prim.Native.Nat.{_+_}
 use native.Mathlib.Omega.{arith}
 use Rattle.answers.specs.declared.Answer.{Answer}
-use Rattle.ticket.specs.Ticket.{Call, adds, counts}
+use Rattle.ticket.specs.Ticket.{Call, adds, after, counts, nothing}
 use Rattle.ticket.proofs.Laws.{after-is, unchanged-is}
 use borrow.Author.Needs.{needs}
 use Rattle.ticket.proofs.after_receive.Statement.{statement}
@@ -83,54 +83,37 @@ returns-4 c =
     let a = c .before .before .before .args in
     after-is (a .t) (Call.receives (a .answer)) (counts 0 0 0 0 1) _ (ap (λ (a : Answer). adds (Call.receives a)) (c .before .enum-told3 .given .1)) (omega arith) (omega arith) (omega arith) (omega arith) (omega arith)
 
+-- an answer that counts nothing
+stays : (s : tie.Start) → adds (Call.receives (s .args .answer)) ≡ nothing → s .args .t ≡ after (s .args .t) (Call.receives (s .args .answer))
+stays s e = unchanged-is (s .args .t) (Call.receives (s .args .answer)) (omega arith) (omega arith) (omega arith) (omega arith) (omega arith) e
+
 returns-5 : tie.Need-returns-5
 unfolding adds
-returns-5 c =
-    let a = c .before .before .args in
-    unchanged-is (a .t) (Call.receives (a .answer)) (omega arith) (omega arith) (omega arith) (omega arith) (omega arith)
-    (ap (λ (a : Answer). adds (Call.receives a)) (c .enum-told4 .given .1))
+returns-5 c = stays (c .before .before) (ap (λ (a : Answer). adds (Call.receives a)) (c .enum-told4 .given .1))
 
 returns-6 : tie.Need-returns-6
 unfolding adds
-returns-6 c =
-    let a = c .before .before .args in
-    unchanged-is (a .t) (Call.receives (a .answer)) (omega arith) (omega arith) (omega arith) (omega arith) (omega arith)
-    (ap (λ (a : Answer). adds (Call.receives a)) (c .enum-told5 .given .1))
+returns-6 c = stays (c .before .before) (ap (λ (a : Answer). adds (Call.receives a)) (c .enum-told5 .given .1))
 
 returns-7 : tie.Need-returns-7
 unfolding adds
-returns-7 c =
-    let a = c .before .before .args in
-    unchanged-is (a .t) (Call.receives (a .answer)) (omega arith) (omega arith) (omega arith) (omega arith) (omega arith)
-    (ap (λ (a : Answer). adds (Call.receives a)) (c .enum-told6 .given .1))
+returns-7 c = stays (c .before .before) (ap (λ (a : Answer). adds (Call.receives a)) (c .enum-told6 .given .1))
 
 returns-8 : tie.Need-returns-8
 unfolding adds
-returns-8 c =
-    let a = c .before .before .args in
-    unchanged-is (a .t) (Call.receives (a .answer)) (omega arith) (omega arith) (omega arith) (omega arith) (omega arith)
-    (ap (λ (a : Answer). adds (Call.receives a)) (c .enum-told7 .given .1))
+returns-8 c = stays (c .before .before) (ap (λ (a : Answer). adds (Call.receives a)) (c .enum-told7 .given .1))
 
 returns-9 : tie.Need-returns-9
 unfolding adds
-returns-9 c =
-    let a = c .before .before .args in
-    unchanged-is (a .t) (Call.receives (a .answer)) (omega arith) (omega arith) (omega arith) (omega arith) (omega arith)
-    (ap (λ (a : Answer). adds (Call.receives a)) (c .enum-told8 .given .1))
+returns-9 c = stays (c .before .before) (ap (λ (a : Answer). adds (Call.receives a)) (c .enum-told8 .given .1))
 
 returns-10 : tie.Need-returns-10
 unfolding adds
-returns-10 c =
-    let a = c .before .before .args in
-    unchanged-is (a .t) (Call.receives (a .answer)) (omega arith) (omega arith) (omega arith) (omega arith) (omega arith)
-    (ap (λ (a : Answer). adds (Call.receives a)) (c .enum-told9 .given .1))
+returns-10 c = stays (c .before .before) (ap (λ (a : Answer). adds (Call.receives a)) (c .enum-told9 .given .1))
 
 returns-11 : tie.Need-returns-11
 unfolding adds
-returns-11 c =
-    let a = c .before .before .args in
-    unchanged-is (a .t) (Call.receives (a .answer)) (omega arith) (omega arith) (omega arith) (omega arith) (omega arith)
-    (ap (λ (a : Answer). adds (Call.receives a)) (c .enum-told10 .given .1))
+returns-11 c = stays (c .before .before) (ap (λ (a : Answer). adds (Call.receives a)) (c .enum-told10 .given .1))
 
 pub after-receive-spec : {M : Type 1} → statement M
 after-receive-spec =

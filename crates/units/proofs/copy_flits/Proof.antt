@@ -6,11 +6,10 @@ use Prim.Native.Nat.{ℕ, _+_, _*_, _-_, _≤_}
 use native.Mathlib.Numerals.{add-one}
 use native.Mathlib.Omega.{arith}
 use lib.ListN.{length, drop}
-use Rattle.ends.proofs.Parts.{put-is}
+use Rattle.ends.proofs.Parts.{put-is, put-after}
 use Rattle.ends.specs.Ring.{flit-at, put-at, place}
 use Rattle.units.specs.Units.{stored-flits}
 use Rattle.units.proofs.Lengths.{length-stored}
-use Rattle.units.proofs.Parts.{put-after}
 use Rattle.units.proofs.copy_flits.Statement.{statement}
 use Rattle.units.proofs.copy_flits.Tie as tie
 

@@ -10,13 +10,13 @@ use lib.ListN.{drop}
 use Rattle.flits.specs.Bytes.{read}
 use Rattle.flits.specs.Fields.{content, run-length}
 use Rattle.compose.specs.Flits.{control-told}
-use Rattle.ends.proofs.Parts.{flit-is}
+use Rattle.ends.proofs.Parts.{flit-is, put-after}
 use Rattle.ends.specs.Refusals.{cursor-at}
 use Rattle.ends.specs.Ring.{flit-at, place}
 use Rattle.ends.specs.declared.state.End.{End}
 use Rattle.units.specs.Units.{stored-flits, control-at-cursor, unit-sent}
 use Rattle.units.proofs.Lengths.{length-stored, length-unsealed, control-sent}
-use Rattle.units.proofs.Parts.{put-after, seal-onto}
+use Rattle.units.proofs.Parts.{seal-onto}
 use Rattle.units.proofs.write_unit.Statement.{statement}
 use Rattle.units.proofs.write_unit.Tie as tie
 

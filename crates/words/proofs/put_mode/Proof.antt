@@ -1,78 +1,24 @@
--- `words::put_mode` meets its contract, word by word. Assumes nothing.
-use mathlib.Core.Path.{ap, sym}
+-- `words::put_mode` meets its contract. Assumes nothing.
+use native.Mathlib.Omega.{arith}
 use Rattle.text.proofs.Laws.{puts-as}
-use Rattle.words.specs.Words.{mode-word}
+use Rattle.words.proofs.Laws.{mode-short, spelt-long}
 use borrow.Author.Needs.{needs}
 use Rattle.words.proofs.put_mode.Statement.{statement}
 use Rattle.words.proofs.put_mode.Tie as tie
 
-enum-told : tie.Need-enum-told
-enum-told c = search needs
+word-of-mode-requires : tie.Need-word-of-mode-requires
+word-of-mode-requires c κs = search needs
 
-slice-aggregate-put : tie.Need-slice-aggregate-put
-slice-aggregate-put c = search needs
-
-put-requires : tie.Need-put-requires
-put-requires c κs = search needs
-
-enum-told-2 : tie.Need-enum-told-2
-enum-told-2 c = search needs
-
-slice-aggregate-put-2 : tie.Need-slice-aggregate-put-2
-slice-aggregate-put-2 c = search needs
-
-put-requires-2 : tie.Need-put-requires-2
-put-requires-2 c κs = search needs
-
-enum-told-3 : tie.Need-enum-told-3
-enum-told-3 c = search needs
-
-slice-aggregate-put-3 : tie.Need-slice-aggregate-put-3
-slice-aggregate-put-3 c = search needs
-
-put-requires-3 : tie.Need-put-requires-3
-put-requires-3 c κs = search needs
+put-word-requires : tie.Need-put-word-requires
+put-word-requires c κs =
+    let w = c .word-of-mode in
+    (w .ensures .1, omega (arith, spelt-long (w .result .0) (w .result .1) (w .ensures .0) (w .ensures .1), mode-short (c .before .before .before .args .mode)))
 
 same-length : tie.Need-same-length
 same-length c = search needs
 
 returns : tie.Need-returns
-unfolding mode-word
-returns c =
-    puts-as (sym (ap mode-word (c .before .before .before .before .before .enum-told .given .1))) (c .before .before .put .ensures)
-
-same-length-2 : tie.Need-same-length-2
-same-length-2 c = search needs
-
-returns-2 : tie.Need-returns-2
-unfolding mode-word
-returns-2 c =
-    puts-as (sym (ap mode-word (c .before .before .before .before .before .enum-told2 .given .1))) (c .before .before .put2 .ensures)
-
-same-length-3 : tie.Need-same-length-3
-same-length-3 c = search needs
-
-returns-3 : tie.Need-returns-3
-unfolding mode-word
-returns-3 c =
-    puts-as (sym (ap mode-word (c .before .before .before .before .before .enum-told3 .given .1))) (c .before .before .put3 .ensures)
+returns c = puts-as (c .before .before .before .word-of-mode .ensures .0) (c .before .before .put-word .ensures)
 
 pub put-mode-spec : {M : Type 1} → statement M
-put-mode-spec =
-    tie.close
-    (tie.spec
-    enum-told
-    slice-aggregate-put
-    put-requires
-    enum-told-2
-    slice-aggregate-put-2
-    put-requires-2
-    enum-told-3
-    slice-aggregate-put-3
-    put-requires-3
-    same-length
-    returns
-    same-length-2
-    returns-2
-    same-length-3
-    returns-3)
+put-mode-spec = tie.close (tie.spec word-of-mode-requires put-word-requires same-length returns)

@@ -1,7 +1,12 @@
 -- `script::commands::arguments` meets its contract: it has one argument or more. Assumes nothing.
-use native.Mathlib.Nat.{sub-zero}
+use mathlib.Core.Path.{ap, sym, _∙_}
+use Prim.Native.Nat.{_+_, _-_}
 use native.Mathlib.Omega.{arith}
-use Rattle.tokens.proofs.Cuts.{to-end, tokens-more, tokens-one, last-one, last-tokens}
+use lib.ListN.{length, take, drop}
+use Rattle.tokens.specs.Tokens.{tokens}
+use Rattle.tokens.proofs.Cuts.{tokens-cut, tokens-one}
+use Rattle.script.specs.Script.{command-of}
+use Rattle.script.proofs.Lines.{written-more, written-one}
 use borrow.Author.Needs.{needs}
 use Rattle.script.proofs.commands.arguments.Statement.{statement}
 use Rattle.script.proofs.commands.arguments.Tie as tie
@@ -44,9 +49,10 @@ returns c =
     let a = c .before .before .before .before .before .before .before .before .before .before .before .args in
     let r = a .rest .now in
     let f = c .before .before .before .before .before .before .before .first-token in
-    let e = tokens-more r (f .result) (f .ensures .1) (c .before .before .before .before .before .before .if1 .taken) in
+    let rest = take (length r - (f .result + 1)) (drop (f .result + 1) r) in
+    let e = tokens-cut r (f .result) (f .ensures .1) (c .before .before .before .before .before .before .if1 .taken) in
     let m = c .before .before .more-arguments in
-    (rw e (simp (sub-zero, to-end) at (m .ensures .0)), rw (e, last-tokens) (simp (sub-zero, to-end) at (m .ensures .1)))
+    (m .ensures .0 ∙ ap (command-of (a .op .now)) (sym e), written-more (command-of (a .op .now)) (a .bytes .now) (tokens r) (take (f .result - 0) r) rest e (m .ensures .1))
 
 same-length-2 : tie.Need-same-length-2
 same-length-2 c = search needs
@@ -57,7 +63,8 @@ returns-2 c =
     let r = a .rest .now in
     let f = c .before .before .before .before .before .first-token in
     let e = tokens-one r (f .result) (f .ensures .1) (c .before .before .before .before .if1 .left) in
-    (rw e (c .before .before .one-argument .ensures .0), rw (e, last-one) (c .before .before .one-argument .ensures .1))
+    let m = c .before .before .one-argument in
+    (m .ensures .0 ∙ ap (command-of (a .op .now)) (sym e), written-one (command-of (a .op .now)) (a .bytes .now) (tokens r) r e (m .ensures .1))
 
 pub arguments-spec : {M : Type 1} → statement M
 arguments-spec =

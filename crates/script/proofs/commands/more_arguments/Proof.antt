@@ -1,14 +1,14 @@
 -- `script::commands::more_arguments` meets its contract: it has two arguments or more. Assumes nothing.
-use mathlib.Core.List.{List}
+use mathlib.Core.List.{List, _∷_}
 use mathlib.Core.Path.{ap, sym, _∙_}
-use Prim.Native.Nat.{ℕ, _+_}
-use native.Mathlib.Nat.{sub-zero}
+use Prim.Native.Nat.{ℕ, _+_, _-_}
 use native.Mathlib.Omega.{arith}
-use lib.ListN.{take, drop}
-use Rattle.tokens.specs.Tokens.{tokens, last, over}
-use Rattle.tokens.proofs.Cuts.{to-end, tokens-more, tokens-one, last-one}
-use Rattle.tokens.proofs.Figures.{over-none}
-use Rattle.script.proofs.Lines.{three-none}
+use lib.ListN.{length, take, drop}
+use Rattle.tokens.specs.Tokens.{tokens, last}
+use Rattle.tokens.proofs.Cuts.{tokens-cut, tokens-one}
+use Rattle.script.specs.declared.Command.{Command}
+use Rattle.script.specs.Script.{command-of}
+use Rattle.script.proofs.Lines.{three-none, carries-none, written-one}
 use borrow.Author.Needs.{needs}
 use Rattle.script.proofs.commands.more_arguments.Statement.{statement}
 use Rattle.script.proofs.commands.more_arguments.Tie as tie
@@ -48,9 +48,12 @@ returns c =
     let a = c .before .before .before .before .before .before .before .before .before .args in
     let r = a .rest .now in
     let f = c .before .before .before .before .first-token in
-    let e = tokens-more r (f .result) (f .ensures .1) (c .before .before .before .if1 .taken) in
-    let n = three-none (a .op .now) (a .a .now) (take (f .result) r) (drop (f .result + 1) r) (last (tokens r)) in
-    (rw e (simp (sub-zero, to-end) at (c .last-arguments .ensures)), sym (rw e (ap (λ (l : List ℕ). over l (a .bytes .now)) (rw e at n) ∙ over-none (a .bytes .now))))
+    let rest = take (length r - (f .result + 1)) (drop (f .result + 1) r) in
+    let made : List (List ℕ) → Command = λ (ts : List (List ℕ)). command-of (a .op .now) (a .a .now ∷ ts) in
+    let e = tokens-cut r (f .result) (f .ensures .1) (c .before .before .before .if1 .taken) in (
+      c .last-arguments .ensures ∙ ap made (sym e),
+      carries-none (made (tokens r)) (made (take (f .result - 0) r ∷ tokens rest)) (last (tokens r)) (a .bytes .now) (ap made e) (three-none (a .op .now) (a .a .now) (take (f .result - 0) r) rest (last (tokens r))),
+    )
 
 same-length : tie.Need-same-length
 same-length c = search needs
@@ -61,7 +64,9 @@ returns-2 c =
     let r = a .rest .now in
     let f = c .before .before .before .before .before .first-token in
     let e = tokens-one r (f .result) (f .ensures .1) (c .before .before .before .before .if1 .left) in
-    (rw e (c .before .before .two-arguments .ensures .0), rw (e, last-one) (c .before .before .two-arguments .ensures .1))
+    let made : List (List ℕ) → Command = λ (ts : List (List ℕ)). command-of (a .op .now) (a .a .now ∷ ts) in
+    let m = c .before .before .two-arguments in
+    (m .ensures .0 ∙ ap made (sym e), written-one made (a .bytes .now) (tokens r) r e (m .ensures .1))
 
 pub more-arguments-spec : {M : Type 1} → statement M
 more-arguments-spec =

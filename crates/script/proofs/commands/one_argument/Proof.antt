@@ -1,9 +1,12 @@
 -- `script::commands::one_argument` meets its contract, word by word. Assumes nothing.
-use mathlib.Core.List.{[], _∷_}
-use mathlib.Core.Path.{sym, _∙_}
+use mathlib.Core.Bool.{cond}
+use mathlib.Core.List.{List, [], _∷_}
+use mathlib.Core.Path.{ap, sym, _∙_}
+use Prim.Native.Nat.{ℕ}
+use Rattle.tokens.specs.Tokens.{over}
 use Rattle.script.specs.declared.Command.the-variants as command
 use Rattle.script.specs.Script.{start, accept, receive, command-of}
-use Rattle.script.proofs.Lines.{start-none, bad-none, one-start, one-accept, one-receive, one-bad, carries, carries-none}
+use Rattle.script.proofs.Lines.{start-none, bad-none, one-start, one-bytes, one-bad, bytes-some, carries, carries-none}
 use borrow.Author.Needs.{needs}
 use Rattle.script.proofs.commands.one_argument.Statement.{statement}
 use Rattle.script.proofs.commands.one_argument.Tie as tie
@@ -30,48 +33,38 @@ slice-aggregate-is-2 c = search needs
 is-requires-2 : tie.Need-is-requires-2
 is-requires-2 c κs = search needs
 
-accept-requires : tie.Need-accept-requires
-accept-requires c κs = search needs
-
-same-length : tie.Need-same-length
-same-length c = search needs
-
-returns-2 : tie.Need-returns-2
-returns-2 c =
-    let a = c .before .before .before .before .before .before .before .before .before .before .before .before .before .args in
-    let s = sym (c .before .before .before .before .before .before .before .before .is .ensures) ∙ c .before .before .before .before .before .before .before .if1 .left in
-    let t = sym (c .before .before .before .before .before .is2 .ensures) ∙ c .before .before .before .before .if2 .taken in
-    let e = one-accept (a .op .now) (a .a .now) s t in
-    (c .before .before .accept .ensures .0 ∙ sym e, carries (command-of (a .op .now) (a .a .now ∷ [])) (accept (a .a .now)) (a .a .now) (a .bytes .now) _ e (c .before .before .accept .ensures .1))
-
 slice-aggregate-is-3 : tie.Need-slice-aggregate-is-3
 slice-aggregate-is-3 c = search needs
 
 is-requires-3 : tie.Need-is-requires-3
 is-requires-3 c κs = search needs
 
-receive-requires : tie.Need-receive-requires
-receive-requires c κs = search needs
+with-bytes-requires : tie.Need-with-bytes-requires
+with-bytes-requires c κs = search needs
 
-same-length-2 : tie.Need-same-length-2
-same-length-2 c = search needs
+same-length : tie.Need-same-length
+same-length c = search needs
+
+returns-2 : tie.Need-returns-2
+returns-2 c =
+    let a = c .before .before .before .before .before .before .before .before .before .before .before .before .before .before .before .args in
+    let s = sym (c .before .before .before .before .before .before .before .before .before .before .is .ensures) ∙ c .before .before .before .before .before .before .before .before .before .if1 .left in
+    let p = c .before .before .before .before .before .before .before .is2 in
+    let q = c .before .before .before .before .before .is3 in
+    let w = c .before .before .with-bytes in
+    let e = one-bytes (a .op .now) (a .a .now) (p .result) (q .result) (p .ensures) (q .ensures) s (c .before .before .before .before .if2 .taken) in
+    let d = cond (p .result) (accept (a .a .now)) (receive (a .a .now)) in (
+      w .ensures .0 ∙ sym e,
+      carries (command-of (a .op .now) (a .a .now ∷ [])) d (a .a .now) (a .bytes .now) _ e (w .ensures .1 ∙ sym (ap (λ (l : List ℕ). over l (a .bytes .now)) (bytes-some (p .result) (a .a .now)))),
+    )
 
 returns-3 : tie.Need-returns-3
 returns-3 c =
-    let a = c .before .before .before .before .before .before .before .before .before .before .before .before .before .before .before .before .args in
-    let s = sym (c .before .before .before .before .before .before .before .before .before .before .before .is .ensures) ∙ c .before .before .before .before .before .before .before .before .before .before .if1 .left in
-    let t = sym (c .before .before .before .before .before .before .before .before .is2 .ensures) ∙ c .before .before .before .before .before .before .before .if2 .left in
-    let u = sym (c .before .before .before .before .before .is3 .ensures) ∙ c .before .before .before .before .if3 .taken in
-    let e = one-receive (a .op .now) (a .a .now) s t u in
-    (c .before .before .receive .ensures .0 ∙ sym e, carries (command-of (a .op .now) (a .a .now ∷ [])) (receive (a .a .now)) (a .a .now) (a .bytes .now) _ e (c .before .before .receive .ensures .1))
-
-returns-4 : tie.Need-returns-4
-returns-4 c =
-    let a = c .before .before .before .before .before .before .before .before .before .before .before .before .args in
-    let s = sym (c .before .before .before .before .before .before .before .is .ensures) ∙ c .before .before .before .before .before .before .if1 .left in
-    let t = sym (c .before .before .before .before .is2 .ensures) ∙ c .before .before .before .if2 .left in
-    let u = sym (c .before .is3 .ensures) ∙ c .if3 .left in
-    let e = one-bad (a .op .now) (a .a .now) s t u in
+    let a = c .before .before .before .before .before .before .before .before .before .before .before .args in
+    let s = sym (c .before .before .before .before .before .before .is .ensures) ∙ c .before .before .before .before .before .if1 .left in
+    let p = c .before .before .before .is2 in
+    let q = c .before .is3 in
+    let e = one-bad (a .op .now) (a .a .now) (p .result) (q .result) (p .ensures) (q .ensures) s (c .if2 .left) in
     (sym e, carries-none (command-of (a .op .now) (a .a .now ∷ [])) command.Bad (a .a .now) (a .bytes .now) e (bad-none (a .a .now)))
 
 pub one-argument-spec : {M : Type 1} → statement M
@@ -84,12 +77,9 @@ one-argument-spec =
     returns
     slice-aggregate-is-2
     is-requires-2
-    accept-requires
-    same-length
-    returns-2
     slice-aggregate-is-3
     is-requires-3
-    receive-requires
-    same-length-2
-    returns-3
-    returns-4)
+    with-bytes-requires
+    same-length
+    returns-2
+    returns-3)

@@ -1,6 +1,6 @@
 -- `script::commands::start` meets its contract, by the test. Assumes nothing.
 use mathlib.Core.Path.{sym, _∙_}
-use Rattle.script.specs.Script.{start}
+use Rattle.script.proofs.Lines.{start-told, start-bad}
 use borrow.Author.Needs.{needs}
 use Rattle.script.proofs.commands.start.Statement.{statement}
 use Rattle.script.proofs.commands.start.Tie as tie
@@ -9,12 +9,13 @@ number-requires : tie.Need-number-requires
 number-requires c κs = search needs
 
 returns : tie.Need-returns
-unfolding start
-returns c = simp (sym (c .before .number .ensures .0) ∙ c .if1 .taken, c .before .number .ensures .1 .0)
+returns c =
+    let n = c .before .number in
+    start-told (c .before .before .before .args .length .now) (n .result .value) (sym (n .ensures .0) ∙ c .if1 .taken) (n .ensures .1 .0)
 
 returns-2 : tie.Need-returns-2
-unfolding start
-returns-2 c = simp (sym (c .before .number .ensures .0) ∙ c .if1 .left)
+returns-2 c =
+    start-bad (c .before .before .before .args .length .now) (sym (c .before .number .ensures .0) ∙ c .if1 .left)
 
 pub start-spec : {M : Type 1} → statement M
 start-spec = tie.close (tie.spec number-requires returns returns-2)

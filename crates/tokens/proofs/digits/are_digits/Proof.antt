@@ -1,4 +1,4 @@
--- `tokens::digits::are_digits` meets its contract: the first i are digits. Assumes nothing.
+-- `tokens::digits::are_digits` meets its contract: the first i are digits below the base. Assumes nothing.
 use borrow.Author.Needs.{needs}
 use mathlib.Core.Bool.{true, false}
 use mathlib.Core.Path.{_≡_, refl, ap, sym, _∙_}
@@ -9,16 +9,16 @@ use lib.Dec.{ltb}
 use lib.ListN.{length, drop, getD, drop-of-length-le}
 use lib.Seq.{drop-cons}
 use borrow.Author.Tests.{lt-ltb, le-ltb}
-use Rattle.tokens.specs.Tokens.{nibble, all-hex}
-use Rattle.tokens.proofs.Figures.{hex-here, hex-next, hex-end}
+use Rattle.tokens.specs.Tokens.{nibble, all-below}
+use Rattle.tokens.proofs.Figures.{below-here, below-next, below-end}
 use Rattle.tokens.proofs.digits.are_digits.Statement.{statement}
 use Rattle.tokens.proofs.digits.are_digits.Tie as tie
 
 abbrev Inv-loop : tie.InvT-loop
-Inv-loop hex i₀ i = (i ≤ length hex) × (all-hex hex ≡ all-hex (drop i hex))
+Inv-loop token base i₀ i = (i ≤ length token) × (all-below base token ≡ all-below base (drop i token))
 
 abbrev μ-loop : tie.MeasureT-loop
-μ-loop hex i₀ i = length hex - i
+μ-loop token base i₀ i = length token - i
 
 loop-holds : tie.Need-loop-holds Inv-loop μ-loop
 loop-holds c = (omega arith, refl)
@@ -32,10 +32,12 @@ nibble-requires c κs = search needs
 returns : tie.Need-returns Inv-loop μ-loop
 returns c =
     let l = c .before .before .before .before .loop in
-    let t = c .before .before .before .before .before .before .args .hex .now in
+    let a = c .before .before .before .before .before .before .args in
+    let t = a .token .now in
+    let x = getD t (l .i) 0 in
     let h : l .i < length t = omega arith in
-    let e : ltb (nibble (getD t (l .i) 0)) 16 ≡ false = le-ltb (nibble (getD t (l .i) 0)) 16 (omega (arith, c .before .nibble .ensures)) in
-    sym (l .inv .1 ∙ ap all-hex (drop-cons t (l .i) 0 h) ∙ hex-here (getD t (l .i) 0) (drop (suc (l .i)) t) e)
+    let e : ltb (nibble x) (a .base) ≡ false = le-ltb (nibble x) (a .base) (omega (arith, c .before .nibble .ensures)) in
+    sym (l .inv .1 ∙ ap (all-below (a .base)) (drop-cons t (l .i) 0 h) ∙ below-here (a .base) x (drop (suc (l .i)) t) e)
 
 add-i : tie.Need-add-i Inv-loop μ-loop
 add-i c = omega arith
@@ -46,16 +48,18 @@ loop-less c = omega arith
 loop-again : tie.Need-loop-again Inv-loop μ-loop
 loop-again c =
     let l = c .before .before .before .before .loop in
-    let t = c .before .before .before .before .before .before .args .hex .now in
+    let a = c .before .before .before .before .before .before .args in
+    let t = a .token .now in
+    let x = getD t (l .i) 0 in
     let h : l .i < length t = omega arith in
-    let e : ltb (nibble (getD t (l .i) 0)) 16 ≡ true = lt-ltb (nibble (getD t (l .i) 0)) 16 (omega (arith, c .before .nibble .ensures)) in
-    (omega arith, l .inv .1 ∙ ap all-hex (drop-cons t (l .i) 0 h) ∙ rw add-one (hex-next (getD t (l .i) 0) (drop (suc (l .i)) t) e))
+    let e : ltb (nibble x) (a .base) ≡ true = lt-ltb (nibble x) (a .base) (omega (arith, c .before .nibble .ensures)) in
+    (omega arith, l .inv .1 ∙ ap (all-below (a .base)) (drop-cons t (l .i) 0 h) ∙ rw add-one (below-next (a .base) x (drop (suc (l .i)) t) e))
 
 returns-2 : tie.Need-returns-2 Inv-loop μ-loop
 returns-2 c =
     let l = c .before .loop in
-    let t = c .before .before .before .args .hex .now in
-    sym (l .inv .1 ∙ ap all-hex (drop-of-length-le t {i = l .i} (omega arith)) ∙ hex-end)
+    let a = c .before .before .before .args in
+    sym (l .inv .1 ∙ ap (all-below (a .base)) (drop-of-length-le (a .token .now) {i = l .i} (omega arith)) ∙ below-end (a .base))
 
 pub are-digits-spec : {M : Type 1} → statement M
 are-digits-spec =

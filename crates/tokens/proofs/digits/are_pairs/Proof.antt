@@ -1,5 +1,11 @@
 -- `tokens::digits::are_pairs` meets its contract, test by test. Assumes nothing.
+use mathlib.Core.Bool.{Bool, _&&_}
+use mathlib.Core.Path.{ap, sym, _∙_}
+use Prim.Native.Nat.{_%_}
+use lib.Dec.{leb, ltb, eqb}
+use lib.ListN.{length}
 use Rattle.tokens.specs.Tokens.{digit-pairs}
+use Rattle.tokens.proofs.Figures.{hex-below}
 use borrow.Author.Needs.{needs}
 use Rattle.tokens.proofs.digits.are_pairs.Statement.{statement}
 use Rattle.tokens.proofs.digits.are_pairs.Tie as tie
@@ -9,7 +15,9 @@ are-digits-requires c κs = search needs
 
 returns : tie.Need-returns
 unfolding digit-pairs
-returns c = simp (c .are-digits .ensures)
+returns c =
+    let t = c .before .before .args .hex .now in
+    ap (λ (b : Bool). ltb 0 (length t) && eqb (length t % 2) 0 && leb (length t) 4000 && b) (c .are-digits .ensures ∙ sym (hex-below t))
 
 pub are-pairs-spec : {M : Type 1} → statement M
 are-pairs-spec = tie.close (tie.spec are-digits-requires returns)

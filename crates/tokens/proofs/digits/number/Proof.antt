@@ -9,7 +9,7 @@ use lib.Dec.{leb}
 use lib.ListN.{length, drop, getD, drop-of-length-le}
 use lib.Seq.{drop-cons}
 use borrow.Author.Tests.{not-true, not-false, leb-true}
-use Rattle.ends.proofs.Tests.{and-l, and-r, cond-true}
+use Rattle.ends.proofs.Tests.{and-l, and-r, cond-true, cond-false}
 use Rattle.tokens.specs.Tokens.{is-digit, all-digits, value-from, is-number, value as value-of}
 use Rattle.tokens.proofs.Figures.{no-number, stops, digits-next, value-next, value-start, whole-number, value-end}
 use Rattle.tokens.proofs.digits.number.Statement.{statement}
@@ -23,8 +23,9 @@ abbrev μ-loop : tie.MeasureT-loop
 
 returns : tie.Need-returns Inv-loop μ-loop
 returns c =
-    let e = no-number (c .before .before .args .max) (c .before .before .args .token .now) (c .if1 .taken) in
-    (sym e, (simp e, omega arith))
+    let a = c .before .before .args in
+    let e = no-number (a .max) (a .token .now) (c .if1 .taken) in
+    (sym e, (sym (cond-false (is-number (a .max) (a .token .now)) (value-of (a .token .now)) 0 e), omega arith))
 
 loop-holds : tie.Need-loop-holds Inv-loop μ-loop
 loop-holds c = (omega arith, omega arith, refl, value-start _)
@@ -47,7 +48,7 @@ returns-2 c =
     (l .inv .3 ∙ ap (value-from (l .value)) d)
     (sym (c .before .before .with-digit .ensures .0) ∙ not-true (c .before .before .with-digit .result .ok) (c .if2 .taken))
     in
-    (sym e, (simp e, omega arith))
+    (sym e, (sym (cond-false (is-number (a .max) t) (value-of t) 0 e), omega arith))
 
 add-i : tie.Need-add-i Inv-loop μ-loop
 add-i c = omega arith
@@ -87,7 +88,7 @@ returns-3 c =
     let e : is-number (a .max) t ≡ true =
     whole-number (a .max) (l .value) t some (l .inv .1) (l .inv .2 ∙ ap all-digits d) v
     in
-    (sym e, (simp (e, v, value-end), l .inv .1))
+    (sym e, (sym (cond-true (is-number (a .max) t) (value-of t) 0 e ∙ v ∙ value-end (l .value)), l .inv .1))
 
 pub number-spec : {M : Type 1} → statement M
 number-spec =

@@ -1,10 +1,12 @@
 -- `tokens::digits::offset` meets its contract: a number as it is, more digits as the largest. Assumes nothing.
-use mathlib.Core.Bool.{true, false}
-use mathlib.Core.Path.{_≡_, sym, _∙_}
+use mathlib.Core.Bool.{Bool, true, false, _&&_}
+use mathlib.Core.Path.{_≡_, ap, sym, _∙_}
+use lib.Dec.{ltb}
+use lib.ListN.{length}
 use borrow.Author.Needs.{needs}
 use Rattle.ends.proofs.Tests.{cond-true, cond-false}
 use Rattle.tokens.specs.Tokens.{value, is-decimal, is-number, offset-value}
-use Rattle.tokens.proofs.Figures.{offset-number, offset-large}
+use Rattle.tokens.proofs.Figures.{offset-number, offset-large, digits-below}
 use Rattle.tokens.proofs.digits.offset.Statement.{statement}
 use Rattle.tokens.proofs.digits.offset.Tie as tie
 
@@ -21,22 +23,24 @@ returns c =
       n .ensures .1 .0 ∙ cond-true (is-number 18446744073709551615 t) (value t) 0 e ∙ k .1 ∙ sym (cond-true (is-decimal t) (offset-value t) 0 (k .0)),
     )
 
-are-decimal-requires : tie.Need-are-decimal-requires
-are-decimal-requires c κs = search needs
+are-digits-requires : tie.Need-are-digits-requires
+are-digits-requires c κs = search needs
 
 returns-2 : tie.Need-returns-2
 returns-2 c =
     let t = c .before .before .before .before .before .args .token .now in
     let e : is-number 18446744073709551615 t ≡ false =
     sym (c .before .before .before .number .ensures .0) ∙ c .before .before .if1 .left in
-    let d : is-decimal t ≡ true = cc (c .if2 .taken, c .before .are-decimal .ensures) in
+    let h : (ltb 0 (length t) && c .before .are-digits .result) ≡ true = c .if2 .taken in
+    let d : is-decimal t ≡ true = ap (λ (b : Bool). ltb 0 (length t) && b) (digits-below t ∙ sym (c .before .are-digits .ensures)) ∙ h in
     (sym d, offset-large t e d ∙ sym (cond-true (is-decimal t) (offset-value t) 0 d))
 
 returns-3 : tie.Need-returns-3
 returns-3 c =
     let t = c .before .before .before .before .before .args .token .now in
-    let d : is-decimal t ≡ false = cc (c .if2 .left, c .before .are-decimal .ensures) in
+    let h : (ltb 0 (length t) && c .before .are-digits .result) ≡ false = c .if2 .left in
+    let d : is-decimal t ≡ false = ap (λ (b : Bool). ltb 0 (length t) && b) (digits-below t ∙ sym (c .before .are-digits .ensures)) ∙ h in
     (sym d, sym (cond-false (is-decimal t) (offset-value t) 0 d))
 
 pub offset-spec : {M : Type 1} → statement M
-offset-spec = tie.close (tie.spec number-requires returns are-decimal-requires returns-2 returns-3)
+offset-spec = tie.close (tie.spec number-requires returns are-digits-requires returns-2 returns-3)

@@ -1,25 +1,39 @@
 -- `tokens::digits::with_digit` meets its contract: a number past the most is seen before it is made. Assumes nothing.
-use mathlib.Core.Bool.{true, false}
+use mathlib.Core.Bool.{true, false, _&&_}
 use mathlib.Core.Path.{_≡_}
-use Prim.Native.Nat.{_+_, _-_, _*_}
+use Prim.Native.Nat.{ℕ, _+_, _-_, _*_, _≤_, _<_}
 use native.Mathlib.Omega.{arith}
 use lib.Dec.{leb}
 use borrow.Author.Tests.{not-true, not-false, leb-true, le-leb, lt-leb}
-use Rattle.ends.proofs.Tests.{and-l}
+use Rattle.ends.proofs.Tests.{and-l, and-true, and-false-l}
 use Rattle.tokens.specs.Tokens.{is-digit}
+use Rattle.tokens.proofs.Figures.{and-false-r, told-none, told-some}
 use borrow.Author.Needs.{needs}
 use Rattle.tokens.proofs.digits.with_digit.Statement.{statement}
 use Rattle.tokens.proofs.digits.with_digit.Tie as tie
 
+-- the number with the digit x
+module _ (n x max : ℕ) where
+  abbrev next : ℕ
+  next = n * 10 + (x - 48)
+
+  at-least : is-digit x ≡ true → 48 ≤ x
+  at-least h = leb-true 48 x (and-l (leb 48 x) (leb x 57) h)
+
+  past : max < next → (is-digit x && leb next max) ≡ false
+  past h = and-false-r (is-digit x) (leb next max) (lt-leb next max h)
+
 returns : tie.Need-returns
 returns c =
-    let k : is-digit (c .before .args .c) ≡ false = not-true (is-digit (c .before .args .c)) (c .if1 .taken) in
-    (simp k, simp k)
+    let a = c .before .args in
+    let m = next (a .n) (a .c) (a .max) in
+    told-none (is-digit (a .c) && leb m (a .max)) m (and-false-l (is-digit (a .c)) (leb m (a .max)) (not-true (is-digit (a .c)) (c .if1 .taken)))
 
 sub-d : tie.Need-sub-d
 sub-d c =
-    let x = c .before .args .c in
-    omega (arith, leb-true 48 x (and-l (leb 48 x) (leb x 57) (not-false (is-digit x) (c .if1 .left))))
+    let a = c .before .args in
+    let k = at-least (a .n) (a .c) (a .max) (not-false (is-digit (a .c)) (c .if1 .left)) in
+    omega arith
 
 cast-d : tie.Need-cast-d
 cast-d c = search needs
@@ -27,29 +41,30 @@ cast-d c = search needs
 returns-2 : tie.Need-returns-2
 returns-2 c =
     let a = c .before .before .args in
-    let k : is-digit (a .c) ≡ true = not-false (is-digit (a .c)) (c .before .if1 .left) in
-    let h : leb (a .n * 10 + (a .c - 48)) (a .max) ≡ false = lt-leb (a .n * 10 + (a .c - 48)) (a .max) (omega (arith, leb-true 48 (a .c) (and-l (leb 48 (a .c)) (leb (a .c) 57) k))) in
-    (simp (k, h), simp (k, h))
+    let m = next (a .n) (a .c) (a .max) in
+    let k = at-least (a .n) (a .c) (a .max) (not-false (is-digit (a .c)) (c .before .if1 .left)) in
+    told-none (is-digit (a .c) && leb m (a .max)) m (past (a .n) (a .c) (a .max) (omega arith))
 
 returns-3 : tie.Need-returns-3
 returns-3 c =
     let a = c .before .before .before .args in
-    let k : is-digit (a .c) ≡ true = not-false (is-digit (a .c)) (c .before .before .if1 .left) in
-    let h : leb (a .n * 10 + (a .c - 48)) (a .max) ≡ false = lt-leb (a .n * 10 + (a .c - 48)) (a .max) (omega (arith, leb-true 48 (a .c) (and-l (leb 48 (a .c)) (leb (a .c) 57) k))) in
-    (simp (k, h), simp (k, h))
+    let m = next (a .n) (a .c) (a .max) in
+    let k = at-least (a .n) (a .c) (a .max) (not-false (is-digit (a .c)) (c .before .before .if1 .left)) in
+    told-none (is-digit (a .c) && leb m (a .max)) m (past (a .n) (a .c) (a .max) (omega arith))
 
 mul-tens : tie.Need-mul-tens
-mul-tens c = search needs
+mul-tens c = record { fits = omega arith }
 
 add-value : tie.Need-add-value
-add-value c = search needs
+add-value c = record { fits = omega arith }
 
 returns-4 : tie.Need-returns-4
 returns-4 c =
     let a = c .before .before .before .args in
-    let k : is-digit (a .c) ≡ true = not-false (is-digit (a .c)) (c .before .before .if1 .left) in
-    let h : leb (a .n * 10 + (a .c - 48)) (a .max) ≡ true = le-leb (a .n * 10 + (a .c - 48)) (a .max) (omega (arith, leb-true 48 (a .c) (and-l (leb 48 (a .c)) (leb (a .c) 57) k))) in
-    (simp (k, h), simp (k, h))
+    let m = next (a .n) (a .c) (a .max) in
+    let d = not-false (is-digit (a .c)) (c .before .before .if1 .left) in
+    let k = at-least (a .n) (a .c) (a .max) d in
+    told-some (is-digit (a .c) && leb m (a .max)) m (and-true (is-digit (a .c)) (leb m (a .max)) d (le-leb m (a .max) (omega arith)))
 
 pub with-digit-spec : {M : Type 1} → statement M
 with-digit-spec =

@@ -1,0 +1,12 @@
+-- `admission::unit_shaped` meets its contract. Assumes nothing.
+use mathlib.Core.Path.{refl}
+use Rattle.admission.specs.Admission.{unit-shaped}
+use Rattle.admission.proofs.unit_shaped.Statement.{statement}
+use Rattle.admission.proofs.unit_shaped.Tie as tie
+
+returns : tie.Need-returns
+unfolding unit-shaped
+returns c = refl
+
+pub unit-shaped-spec : {M : Type 1} → statement M
+unit-shaped-spec = tie.close (tie.spec returns)

@@ -1,3 +1,0 @@
-pub mod Stream
-pub mod End
-pub mod Step
