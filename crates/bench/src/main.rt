@@ -3,7 +3,6 @@
 use bench_lib::Bench;
 use libc::STDERR_FILENO;
 use libc::STDIN_FILENO;
-use libc::STDOUT_FILENO;
 ghost use mathlib.Core.Path.{_≡_};
 ghost use Prim.Native.Nat.{_+_, _^_, _≤_, _<_};
 ghost use lib.ListN.{length};
@@ -70,7 +69,7 @@ fn print_all(
     if !failed {
         let counts = kept.ticket;
         let bytes = bench_lib::put_last_lines(out, rest, counts, ticketed);
-        io::write_all(STDOUT_FILENO, &out[..bytes]);
+        output::write(out, bytes);
     }
 }
 
@@ -104,10 +103,7 @@ fn print_some(
     let lines = printed.bytes;
     let left = bytes % 64;
     bench_lib::keep_rest(input, bytes - left, left);
-    let written = io::write_all(STDOUT_FILENO, &out[..lines]);
-    if !written {
-        os::fail(b"standard output");
-    }
+    let written = output::write(out, lines);
     Turn {
         kept: after,
         rest: left,

@@ -2,7 +2,6 @@
 // only moved: what is printed is said by the library.
 use libc::STDERR_FILENO;
 use libc::STDIN_FILENO;
-use libc::STDOUT_FILENO;
 use pair::Drive;
 ghost use mathlib.Core.Path.{_≡_};
 ghost use Prim.Native.Nat.{_+_, _≤_, _<_};
@@ -115,7 +114,7 @@ fn drive_all(
             &input[from..to],
             out,
         );
-        let written = write(out, fed.bytes);
+        let written = output::write(out, fed.bytes);
         kept = fed.drive;
         turn = next_turn(now, fed.used, written);
     }
@@ -178,17 +177,6 @@ fn write_last(out: &[u8], bytes: usize, failed: bool)
     requires { ⌜ bytes ≤ length (now out) ⌝ }
 {
     if !failed {
-        write(out, bytes);
+        output::write(out, bytes);
     }
-}
-
-// Writes the first bytes of the output.
-fn write(out: &[u8], bytes: usize) -> bool
-    requires { ⌜ bytes ≤ length (now out) ⌝ }
-{
-    let written = io::write_all(STDOUT_FILENO, &out[..bytes]);
-    if !written {
-        os::fail(b"standard output");
-    }
-    written
 }

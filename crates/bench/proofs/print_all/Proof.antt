@@ -4,7 +4,7 @@ use mathlib.Core.Path.{_≡_, refl, ap, _∙_}
 use Prim.Native.Nat.{_+_, _*_, _≤_, _<_}
 use native.Mathlib.Omega.{arith}
 use lib.Dec.{ltb}
-use lib.ListN.{length, length-take}
+use lib.ListN.{length}
 use borrow.Author.Tests.{ltb-true}
 use Rattle.ends.proofs.Tests.{and-r}
 use Rattle.bench_lib.specs.declared.Bench.{Bench}
@@ -73,26 +73,14 @@ put-last-lines-requires c κs =
     let q = c .before .before .before .before .before .before .before .before .before .before .pre in
     omega (arith, l .inv .2, q .2)
 
-slice-reshare-prefix-write-all : tie.Need-slice-reshare-prefix-write-all Inv-loop μ-loop
-slice-reshare-prefix-write-all c =
-    let a = c .before .before .before .before .before .before .before .before .before .before .before .before .before .args in
-    let l = c .before .before .before .before .before .before .before .loop in
-    let q = c .before .before .before .before .before .before .before .before .before .before .before .before .before .pre in
-    let p = c .before .before .put-last-lines .ensures in
-    let short = last-short (l .rest) (l .kept .ticket) (a .ticketed) in
-    omega (arith, short, p .place, p .size, l .inv .2, q .2)
-
-slice-aggregate-write-all : tie.Need-slice-aggregate-write-all Inv-loop μ-loop
-slice-aggregate-write-all c =
+write-requires : tie.Need-write-requires Inv-loop μ-loop
+write-requires c κs =
     let a = c .before .before .before .before .before .before .before .before .before .before .before .before .before .before .args in
     let l = c .before .before .before .before .before .before .before .before .loop in
     let q = c .before .before .before .before .before .before .before .before .before .before .before .before .before .before .pre in
     let p = c .before .before .before .put-last-lines .ensures in
     let short = last-short (l .rest) (l .kept .ticket) (a .ticketed) in
-    rw length-take (omega (arith, short, p .place, p .size, l .inv .2, q .2))
-
-write-all-requires : tie.Need-write-all-requires Inv-loop μ-loop
-write-all-requires c κs = tt
+    omega (arith, short, p .place, p .size, l .inv .2, q .2)
 
 same-length : tie.Need-same-length Inv-loop μ-loop
 same-length c =
@@ -144,9 +132,7 @@ print-all-spec =
     loop-less
     loop-again
     put-last-lines-requires
-    slice-reshare-prefix-write-all
-    slice-aggregate-write-all
-    write-all-requires
+    write-requires
     same-length
     same-length-2
     same-length-3

@@ -79,23 +79,8 @@ keep-rest-requires c κs =
     let fits : a .rest + k .result ≤ 65536 = omega (arith, same, room, q .1, q .2) in
     omega (arith, fits, same, q .2)
 
-slice-reshare-prefix-write-all : tie.Need-slice-reshare-prefix-write-all
-slice-reshare-prefix-write-all c =
-    let a = c .before .before .before .before .before .before .before .before .before .before .before .before .before .before .before .before .before .before .before .before .before .before .before .before .before .args in
-    let q = c .before .before .before .before .before .before .before .before .before .before .before .before .before .before .before .before .before .before .before .before .before .before .before .before .before .pre in
-    let r = c .before .before .before .before .before .before .before .before .before .before .before .before .before .before .before .before .before .before .before .read-after in
-    let k = c .before .before .before .before .before .before .before .before .before .before .before .before .before .count in
-    let same : length (r .last .0) ≡ length (a .input .now) = r .kept .0 in
-    let room = simp (length-take, length-drop) at (k .ensures .0 .0) in
-    let fits : a .rest + k .result ≤ 65536 = omega (arith, same, room, q .1, q .2) in
-    let p = c .before .before .before .before .before .before .before .before .before .print-flits in
-    let bytes : length (take (a .rest + k .result) (r .last .0)) ≤ 65536 = rw length-take (omega (arith, fits)) in
-    let puts = p .ensures .1 .1 in
-    let short = session-short (a .store .now) (a .kept) (a .hold .now) (take (a .rest + k .result) (r .last .0)) (a .out .now) _ (p .result .bytes) puts in
-    omega (arith, short, bytes, puts .size, q .3)
-
-slice-aggregate-write-all : tie.Need-slice-aggregate-write-all
-slice-aggregate-write-all c =
+write-requires : tie.Need-write-requires
+write-requires c κs =
     let a = c .before .before .before .before .before .before .before .before .before .before .before .before .before .before .before .before .before .before .before .before .before .before .before .before .before .before .args in
     let q = c .before .before .before .before .before .before .before .before .before .before .before .before .before .before .before .before .before .before .before .before .before .before .before .before .before .before .pre in
     let r = c .before .before .before .before .before .before .before .before .before .before .before .before .before .before .before .before .before .before .before .before .read-after in
@@ -107,16 +92,7 @@ slice-aggregate-write-all c =
     let bytes : length (take (a .rest + k .result) (r .last .0)) ≤ 65536 = rw length-take (omega (arith, fits)) in
     let puts = p .ensures .1 .1 in
     let short = session-short (a .store .now) (a .kept) (a .hold .now) (take (a .rest + k .result) (r .last .0)) (a .out .now) _ (p .result .bytes) puts in
-    rw length-take (omega (arith, short, bytes, puts .size, q .3))
-
-write-all-requires : tie.Need-write-all-requires
-write-all-requires c κs = search needs
-
-slice-aggregate-fail-2 : tie.Need-slice-aggregate-fail-2
-slice-aggregate-fail-2 c = search needs
-
-fail-requires-2 : tie.Need-fail-requires-2
-fail-requires-2 c κs = search needs
+    omega (arith, short, bytes, puts .size, q .3)
 
 same-length-2 : tie.Need-same-length-2
 same-length-2 c = search needs
@@ -129,14 +105,14 @@ same-length-4 c = search needs
 
 returns-2 : tie.Need-returns-2
 returns-2 c =
-    let a = c .before .before .before .before .before .before .before .before .before .before .before .before .before .before .before .before .before .before .before .before .before .before .before .before .before .before .before .before .args in
-    let q = c .before .before .before .before .before .before .before .before .before .before .before .before .before .before .before .before .before .before .before .before .before .before .before .before .before .before .before .before .pre in
-    let r = c .before .before .before .before .before .before .before .before .before .before .before .before .before .before .before .before .before .before .before .before .before .before .read-after in
-    let k = c .before .before .before .before .before .before .before .before .before .before .before .before .before .before .before .before .count in
+    let a = c .before .before .before .before .before .before .before .before .before .before .before .before .before .before .before .before .before .before .before .before .before .before .before .before .before .before .before .args in
+    let q = c .before .before .before .before .before .before .before .before .before .before .before .before .before .before .before .before .before .before .before .before .before .before .before .before .before .before .before .pre in
+    let r = c .before .before .before .before .before .before .before .before .before .before .before .before .before .before .before .before .before .before .before .before .before .read-after in
+    let k = c .before .before .before .before .before .before .before .before .before .before .before .before .before .before .before .count in
     let same : length (r .last .0) ≡ length (a .input .now) = r .kept .0 in
     let room = simp (length-take, length-drop) at (k .ensures .0 .0) in
     let fits : a .rest + k .result ≤ 65536 = omega (arith, same, room, q .1, q .2) in
-    let p = c .before .before .before .before .before .before .before .before .before .before .before .before .print-flits in
+    let p = c .before .before .before .before .before .before .before .before .before .before .before .print-flits in
     let bytes : length (take (a .rest + k .result) (r .last .0)) ≤ 65536 = rw length-take (omega (arith, fits)) in
     let counted = session-counted (a .store .now) (a .kept) (a .hold .now) (take (a .rest + k .result) (r .last .0)) (p .result .kept) (p .ensures .0) in
     (omega arith, omega (arith, counted, bytes))
@@ -160,11 +136,7 @@ print-some-spec =
     print-flits-requires
     sub-keep-rest
     keep-rest-requires
-    slice-reshare-prefix-write-all
-    slice-aggregate-write-all
-    write-all-requires
-    slice-aggregate-fail-2
-    fail-requires-2
+    write-requires
     same-length-2
     same-length-3
     same-length-4

@@ -1,8 +1,8 @@
 use native.Mathlib.Omega.{arith}
 use lib.ListN.{length-take}
 use borrow.Author.Needs.{needs}
-use Rattle.drive.proofs.write.Statement.{statement}
-use Rattle.drive.proofs.write.Tie as tie
+use Rattle.output.proofs.write.Statement.{statement}
+use Rattle.output.proofs.write.Tie as tie
 
 slice-aggregate-write-all : tie.Need-slice-aggregate-write-all
 slice-aggregate-write-all c = rw length-take (omega (arith, c .before .before .pre))
