@@ -1,7 +1,7 @@
-// Links the archive that `rt staticlib exports` writes.
+// Links the archive that `rt staticlib c_check` writes.
 fn main() {
     let archive = concat!(env!("CARGO_MANIFEST_DIR"), "/../target/staticlib");
     println!("cargo:rustc-link-search=native={archive}");
-    println!("cargo:rustc-link-lib=static=exports");
-    println!("cargo:rerun-if-changed={archive}/libexports.a");
+    println!("cargo:rustc-link-lib=static=c_check");
+    println!("cargo:rerun-if-changed={archive}/libc_check.a");
 }

@@ -58,7 +58,7 @@ extern "C" {
 const ROUNDS: usize = 1000;
 const NS_A_ROUND: f64 = 100_000.0;
 
-/// The numbers of a state, as crates/measured reads them.
+/// The numbers of a state, as crates/c_speed reads them.
 fn numbers(e: &End) -> [u64; 16] {
     [
         e.capacity as u64,

@@ -8,21 +8,21 @@ use native.Mathlib.Omega.{arith}
 use borrow.Author.Tests.{lt-ltb, le-leb}
 use lib.Dec.{ltb}
 use lib.ListN.{length}
-use Rattle.flits.specs.Bytes.{read}
-use Rattle.flits.specs.Fields.{content, run-length, acceptable}
-use Rattle.ends.specs.Update.{with-held}
-use Rattle.ends.specs.Ring.{begun, stored, walked}
-use Rattle.ends.specs.Refusals.{cursor-at, sent-at, acknowledged-at, store-is, counts-sound, numbers-sound, units-sound, sound}
-use Rattle.ends.specs.declared.state.End.{End}
-use Rattle.ends.specs.declared.state.Verdict.{Verdict}
-use Rattle.ends.specs.declared.state.Verdict.the-variants.{Refused, Admitted}
-use Rattle.ends.specs.declared.walk.Walk.{Walk}
-use Rattle.ends.proofs.Tests.{and-l, and-r, and-true, cond-true, cond-either}
-use Rattle.ends.proofs.Facts.{numbered}
-use Rattle.ends.proofs.Places.{walk-same}
-use Rattle.ends.proofs.Walks.{next-border}
-use Rattle.admission.specs.Admission.{flits-of, control-of, verdict}
-use Rattle.admission.proofs.Admitted.{Admission, admission}
+use Rattle.flit_read.specs.Bytes.{read}
+use Rattle.flit_read.specs.Fields.{content, run-length, acceptable}
+use Rattle.end_state.specs.Update.{with-held}
+use Rattle.end_state.specs.Ring.{walk-begun, stored, walked}
+use Rattle.end_state.specs.Refusals.{cursor-at, sent-at, acknowledged-at, store-is, counts-sound, numbers-sound, units-sound, sound}
+use Rattle.end_state.specs.declared.End.{End}
+use Rattle.end_state.specs.declared.Verdict.{Verdict}
+use Rattle.end_state.specs.declared.Verdict.the-variants.{Refused, Admitted}
+use Rattle.end_state.specs.declared.walk.Walk.{Walk}
+use Rattle.end_state.proofs.Tests.{and-l, and-r, and-true, cond-true, cond-either}
+use Rattle.end_state.proofs.Facts.{numbered}
+use Rattle.end_state.proofs.Places.{walk-same}
+use Rattle.end_state.proofs.Walks.{next-border}
+use Rattle.accept_verdict.specs.Admission.{flits-of, control-of, accept-verdict}
+use Rattle.accept_verdict.proofs.Admitted.{Admission, admission}
 use Rattle.accept.specs.Accept.{accept, accept-store}
 use Rattle.accept.proofs.Unchanged.{refused-changes-nothing}
 use Rattle.accept.proofs.Stored.{admitted-end, length-kept, stored-in-order, stored-before, last-flit}
@@ -58,7 +58,7 @@ abbrev pub on-border : List ℕ → Walk
 on-border control =
     record { left = read run-length (content control); run = read run-length (content control); border = true; sound = true }
 
-module _ (e : End) (store unit : List ℕ) (admitted : verdict e store unit ≡ Admitted) where
+module _ (e : End) (store unit : List ℕ) (admitted : accept-verdict e store unit ≡ Admitted) where
   facts : Admission e store unit
   facts = admission e store unit admitted
 
@@ -70,7 +70,7 @@ module _ (e : End) (store unit : List ℕ) (admitted : verdict e store unit ≡ 
 
   before : (n : ℕ) → n ≤ e .held .0 → walked e after n ≡ walked e store n
   before n h =
-      walk-same (e .capacity .0) (e .first) (begun (e .kept .0)) after store n (λ i k. flit-before i (omega arith))
+      walk-same (e .capacity .0) (e .first) (walk-begun (e .kept .0)) after store n (λ i k. flit-before i (omega arith))
 
   -- the control flit stands last
   control-stored : (n : ℕ) → n ≡ flits-of unit - 1 → stored e after (e .held .0 + n) ≡ control-of unit
@@ -131,9 +131,9 @@ module _ (e : End) (store unit : List ℕ) (admitted : verdict e store unit ≡ 
 pub stays-sound : (e : End) (store unit : List ℕ) → store-is e (length store) ≡ true → sound e store ≡ true
     → (store-is (accept e store unit .end) (length (accept-store e store unit)) ≡ true)
     × (sound (accept e store unit .end) (accept-store e store unit) ≡ true)
-stays-sound e store unit h k = go (verdict e store unit) refl
+stays-sound e store unit h k = go (accept-verdict e store unit) refl
   where
-    go : (v : Verdict) → verdict e store unit ≡ v
+    go : (v : Verdict) → accept-verdict e store unit ≡ v
         → (store-is (accept e store unit .end) (length (accept-store e store unit)) ≡ true)
         × (sound (accept e store unit .end) (accept-store e store unit) ≡ true)
     go (Refused r) t = let u = refused-changes-nothing e store unit r t in (cc (h, u .0, u .1), cc (k, u .0, u .1))

@@ -9,14 +9,14 @@ use borrow.Author.Tests.{eqb-true, eqb-false}
 use lib.Dec.{eqb}
 use lib.ListN.{length, take, drop, length-drop}
 use lib.Seq.{take-all}
-use Rattle.ends.specs.Update.{with-held}
-use Rattle.ends.specs.Ring.{flit-at, put-at, place, stored}
-use Rattle.ends.specs.declared.state.End.{End}
-use Rattle.ends.specs.declared.state.Verdict.the-variants.{Admitted}
-use Rattle.ends.proofs.Places.{place-under, same-place, flit-length, put-length, flit-put-same, flit-put-other}
-use Rattle.admission.specs.Admission.{flits-of, control-of, verdict}
-use Rattle.admission.proofs.Admitted.{Admission, admission}
-use Rattle.accept.specs.Accept.{written, accept, accept-store}
+use Rattle.end_state.specs.Update.{with-held}
+use Rattle.end_state.specs.Ring.{flit-at, put-at, ring-place, stored}
+use Rattle.end_state.specs.declared.End.{End}
+use Rattle.end_state.specs.declared.Verdict.the-variants.{Admitted}
+use Rattle.end_state.proofs.Places.{place-under, same-place, flit-length, put-length, flit-put-same, flit-put-other}
+use Rattle.accept_verdict.specs.Admission.{flits-of, control-of, accept-verdict}
+use Rattle.accept_verdict.proofs.Admitted.{Admission, admission}
+use Rattle.accept.specs.Accept.{flits-stored, accept, accept-store}
 
 -- the first n flits of a unit, written to their places
 module _
@@ -24,16 +24,16 @@ module _
     (size : length store ≡ places * 64) (inside : first < places) (room : held + flits ≤ places) (whole : length unit ≡ flits * 64)
   where
     abbrev now : ℕ → List ℕ
-    now n = written places first held store unit n
+    now n = flits-stored places first held store unit n
 
     abbrev new : ℕ → ℕ
-    new i = place places first (held + i)
+    new i = ring-place places first (held + i)
 
     under : (i : ℕ) → i < flits → new i < places
     under i h = place-under places first (held + i) inside (omega arith)
 
     pub written-length : (n : ℕ) → n ≤ flits → length (now n) ≡ length store
-    unfolding written
+    unfolding flits-stored
     written-length zero h = refl
     written-length (suc n) h =
         let l = written-length n (omega arith) in
@@ -42,7 +42,7 @@ module _
 
     -- a place that is not one of the unit's
     pub written-other : (n p : ℕ) → n ≤ flits → ((i : ℕ) → i < n → p ≡ new i → ⊥) → flit-at (now n) p ≡ flit-at store p
-    unfolding written
+    unfolding flits-stored
     written-other zero p h d = refl
     written-other (suc n) p h d =
         let l = written-length n (omega arith) in
@@ -74,18 +74,18 @@ module _
             flit-put-other (now n) (flit-at unit n) (new n) fits long (new i) (apart y) ∙ before y
 
     pub written-at : (n i : ℕ) → n ≤ flits → i < n → flit-at (now n) (new i) ≡ flit-at unit i
-    unfolding written
+    unfolding flits-stored
     written-at zero i h k = absurd (omega arith)
     written-at (suc n) i h k = more n i h k (λ y. written-at n i (omega arith) y)
 
 -- the state and the store after an admitted call
-pub admitted-end : (e : End) (store unit : List ℕ) → verdict e store unit ≡ Admitted
+pub admitted-end : (e : End) (store unit : List ℕ) → accept-verdict e store unit ≡ Admitted
     → accept e store unit .end ≡ with-held (e .held .0 + flits-of unit) e
 unfolding accept
 admitted-end e store unit h = simp h
 
-pub admitted-store : (e : End) (store unit : List ℕ) → verdict e store unit ≡ Admitted
-    → accept-store e store unit ≡ written (e .capacity .0) (e .first) (e .held .0) store unit (flits-of unit)
+pub admitted-store : (e : End) (store unit : List ℕ) → accept-verdict e store unit ≡ Admitted
+    → accept-store e store unit ≡ flits-stored (e .capacity .0) (e .first) (e .held .0) store unit (flits-of unit)
 unfolding accept-store
 admitted-store e store unit h = simp h
 
@@ -96,7 +96,7 @@ last-flit unit h k =
     let a : (flits-of unit - 1) * 64 ≡ length unit - 64 = omega arith in
     ap (λ (n : ℕ). take 64 (drop n unit)) a ∙ take-all 64 (drop (length unit - 64) unit) (omega (arith, length-drop (length unit - 64) unit))
 
-module _ (e : End) (store unit : List ℕ) (admitted : verdict e store unit ≡ Admitted) where
+module _ (e : End) (store unit : List ℕ) (admitted : accept-verdict e store unit ≡ Admitted) where
   facts : Admission e store unit
   facts = admission e store unit admitted
 
@@ -109,7 +109,7 @@ module _ (e : End) (store unit : List ℕ) (admitted : verdict e store unit ≡ 
       (f .shape .whole) (flits-of unit) (omega arith)
 
   -- no place changes but those of the new unit
-  pub only-new-places : (p : ℕ) → ((i : ℕ) → i < flits-of unit → p ≡ place (e .capacity .0) (e .first) (e .held .0 + i) → ⊥)
+  pub only-new-places : (p : ℕ) → ((i : ℕ) → i < flits-of unit → p ≡ ring-place (e .capacity .0) (e .first) (e .held .0 + i) → ⊥)
       → flit-at (accept-store e store unit) p ≡ flit-at store p
   only-new-places p d =
       let f = facts in
@@ -132,10 +132,10 @@ module _ (e : End) (store unit : List ℕ) (admitted : verdict e store unit ≡ 
   stored-before n h =
       let f = facts in
       ap (λ (a : End). stored a (accept-store e store unit) n) (admitted-end e store unit admitted)
-      ∙ only-new-places (place (e .capacity .0) (e .first) n) (apart f)
+      ∙ only-new-places (ring-place (e .capacity .0) (e .first) n) (apart f)
     where
       apart : Admission e store unit → (i : ℕ) → i < flits-of unit
-          → place (e .capacity .0) (e .first) n ≡ place (e .capacity .0) (e .first) (e .held .0 + i) → ⊥
+          → ring-place (e .capacity .0) (e .first) n ≡ ring-place (e .capacity .0) (e .first) (e .held .0 + i) → ⊥
       apart f i k d =
           omega (
             arith,

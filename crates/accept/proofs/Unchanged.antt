@@ -2,13 +2,13 @@
 use mathlib.Core.List.{List}
 use mathlib.Core.Path.{_≡_}
 use Prim.Native.Nat.{ℕ}
-use Rattle.ends.specs.declared.state.End.{End}
-use Rattle.ends.specs.declared.state.Refusal.{Refusal}
-use Rattle.ends.specs.declared.state.Verdict.the-variants.{Refused}
-use Rattle.admission.specs.Admission.{verdict}
+use Rattle.end_state.specs.declared.End.{End}
+use Rattle.end_state.specs.declared.Refusal.{Refusal}
+use Rattle.end_state.specs.declared.Verdict.the-variants.{Refused}
+use Rattle.accept_verdict.specs.Admission.{accept-verdict}
 use Rattle.accept.specs.Accept.{accept, accept-store}
 
-pub refused-changes-nothing : (e : End) (store unit : List ℕ) (r : Refusal) → verdict e store unit ≡ Refused r
+pub refused-changes-nothing : (e : End) (store unit : List ℕ) (r : Refusal) → accept-verdict e store unit ≡ Refused r
     → (accept e store unit .end ≡ e) × (accept-store e store unit ≡ store)
 unfolding accept accept-store
 refused-changes-nothing e store unit r h = (simp h, simp h)

@@ -1,13 +1,13 @@
 // Accept takes one unit from the transaction layer: its data flits, then its control flit.
-use ends::ring;
-use ends::state::End;
-use ends::state::Verdict;
-use numbers::FlitCount;
+use end_state::End;
+use end_state::Verdict;
+use end_state::ring;
+use flit_number::FlitCount;
 ghost use mathlib.Core.Path.{_≡_};
 ghost use Prim.Native.Nat.{_+_, _*_, _≤_};
 ghost use lib.ListN.{length};
-ghost use Rattle.ends.specs.Update.{with-held};
-ghost use Rattle.accept.specs.Accept.{written, accept as accept-of, accept-store};
+ghost use Rattle.end_state.specs.Update.{with-held};
+ghost use Rattle.accept.specs.Accept.{flits-stored, accept as accept-of, accept-store};
 
 // What accept answers, and the end after it.
 pub struct Accepted {
@@ -20,7 +20,7 @@ pub fn accept(e: End, store: &mut [u8], unit: &[u8]) -> Accepted
     ensures { λ r. ⌜ r ≡ accept-of e (now (store .entry)) (now (unit .entry)) ⌝ }
     ensures { λ _. ⌜ now (store .exit) ≡ accept-store e (now (store .entry)) (now (unit .entry)) ⌝ }
 {
-    match admission::verdict(e, &store[..], unit) {
+    match accept_verdict::verdict(e, &store[..], unit) {
         Verdict::Refused(r) => Accepted {
             verdict: Verdict::Refused(r),
             end: e,
@@ -40,7 +40,7 @@ pub fn accept(e: End, store: &mut [u8], unit: &[u8]) -> Accepted
 // Writes a unit to the places after the held flits.
 fn store_unit(e: End, store: &mut [u8], unit: &[u8], flits: usize)
     requires { ⌜ (length (now store) ≡ e .capacity .0 * 64) × (e .capacity .0 ≤ 1024) × (e .first + 1 ≤ e .capacity .0) × (e .held .0 + flits ≤ e .capacity .0) × (length (now unit) ≡ flits * 64) ⌝ }
-    ensures { λ _. ⌜ now (store .exit) ≡ written (e .capacity .0) (e .first) (e .held .0) (now (store .entry)) (now (unit .entry)) flits ⌝ }
+    ensures { λ _. ⌜ now (store .exit) ≡ flits-stored (e .capacity .0) (e .first) (e .held .0) (now (store .entry)) (now (unit .entry)) flits ⌝ }
 {
     let places = e.capacity.0;
     let first = e.first;

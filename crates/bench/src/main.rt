@@ -1,6 +1,6 @@
 // Reads flits from standard input into a fresh receiver and prints a line for each (01, "The bench ticket"). With --ticket the
 // ticket follows. Here bytes are only moved: what is printed is said by the library.
-use bench_lib::Bench;
+use bench_line::Bench;
 use libc::STDERR_FILENO;
 use libc::STDIN_FILENO;
 ghost use mathlib.Core.Path.{_≡_};
@@ -53,7 +53,7 @@ fn print_all(
 )
     requires { ⌜ (now t ≡ table) × (length (now input) ≡ 65536) × (length (now out) ≡ 131072) ⌝ }
 {
-    let mut kept = bench_lib::begin(store);
+    let mut kept = bench_line::begin(store);
     let mut rest: usize = 0;
     let mut reading = true;
     let mut failed = false;
@@ -68,8 +68,8 @@ fn print_all(
     }
     if !failed {
         let counts = kept.ticket;
-        let bytes = bench_lib::put_last_lines(out, rest, counts, ticketed);
-        output::write(out, bytes);
+        let bytes = bench_line::put_last_lines(out, rest, counts, ticketed);
+        text_out::write(out, bytes);
     }
 }
 
@@ -98,12 +98,12 @@ fn print_some(
     }
     let more = io::count(got, &input[rest..]);
     let bytes = rest + more;
-    let printed = bench_lib::print_flits(t, kept, store, hold, &input[..bytes], out);
+    let printed = bench_line::print_flits(t, kept, store, hold, &input[..bytes], out);
     let after = printed.kept;
     let lines = printed.bytes;
     let left = bytes % 64;
-    bench_lib::keep_rest(input, bytes - left, left);
-    let written = output::write(out, lines);
+    bench_line::keep_rest(input, bytes - left, left);
+    let written = text_out::write(out, lines);
     Turn {
         kept: after,
         rest: left,

@@ -12,8 +12,8 @@ use lib.Pow.{pow-mono}
 use lib.ListN.{length, replicate, length-append, length-replicate}
 use lib.Bits.{bitXor, xor-zero-r}
 use Rattle.crc.specs.Poly.{xor, plus, scale, times, Divides, remainder}
-use Rattle.crc.specs.Unit.{odd, is-one, polynomial, bits, Bytes, Right, right, changed, weight, Within}
-use Rattle.crc.specs.Register.{number, pick, place, places}
+use Rattle.crc.specs.Unit.{odd, is-one, polynomial, bits, AllBytes, IsRight, right, changed, weight, Within}
+use Rattle.crc.specs.Register.{bits-number, pick, place, places}
 use Rattle.crc.proofs.Xor.{_⊕_, xor-shl, same-of-zero}
 use Rattle.crc.proofs.Places.{places-xor, places-shift, places-add, places-zero, place-lt}
 use Rattle.crc.proofs.Numbers.{number-plus, number-zeros, number-lt, trailing, number-remainder}
@@ -93,45 +93,45 @@ odd-weight (false ∷ u) = odd-weight u
 
 -- ---- within so many neighbouring bits, for any polynomial with first and last coefficient 1: `last` says that the last is
 
-module _ (k : ℕ) (low : List Bool) (size : length low ≡ suc k) (last : 2 ^ k ≤ number low) where
-  place-live : (s : ℕ) → s < 2 ^ suc k → place (number low) s ≡ 0 → s ≡ 0
+module _ (k : ℕ) (low : List Bool) (size : length low ≡ suc k) (last : 2 ^ k ≤ bits-number low) where
+  place-live : (s : ℕ) → s < 2 ^ suc k → place (bits-number low) s ≡ 0 → s ≡ 0
   place-live s h e = go (s % 2) refl
     where
       go : (o : ℕ) → s % 2 ≡ o → s ≡ 0
       go zero z =
-          let half : s / 2 ≡ 0 = sym (xor-zero-r (s / 2)) ∙ sym (ap (λ (x : ℕ). (s / 2) ⊕ pick (is-one x) (number low)) z) ∙ e in
+          let half : s / 2 ≡ 0 = sym (xor-zero-r (s / 2)) ∙ sym (ap (λ (x : ℕ). (s / 2) ⊕ pick (is-one x) (bits-number low)) z) ∙ e in
           omega (arith, div-add-mod' s 2)
       go (suc o) z =
-          let half : s / 2 ≡ number low = same-of-zero (s / 2) (number low) (sym (ap (λ (x : ℕ). (s / 2) ⊕ pick (is-one x) (number low)) z) ∙ e) in
+          let half : s / 2 ≡ bits-number low = same-of-zero (s / 2) (bits-number low) (sym (ap (λ (x : ℕ). (s / 2) ⊕ pick (is-one x) (bits-number low)) z) ∙ e) in
           absurd (omega (arith, pow-suc 2 k))
 
-  places-live : (n s : ℕ) → s < 2 ^ suc k → places (number low) n s ≡ 0 → s ≡ 0
+  places-live : (n s : ℕ) → s < 2 ^ suc k → places (bits-number low) n s ≡ 0 → s ≡ 0
   places-live zero s h e = e
   places-live (suc n) s h e =
       place-live s h
-      (places-live n (place (number low) s)
-      (place-lt (suc k) (number low) s (subst (λ (m : ℕ). number low < 2 ^ m) size (number-lt low)) h) e)
+      (places-live n (place (bits-number low) s)
+      (place-lt (suc k) (bits-number low) s (subst (λ (m : ℕ). bits-number low < 2 ^ m) size (number-lt low)) h) e)
 
   -- where the remainder is nothing, the number itself comes to nothing after as many places as there are bits
-  all-places : (u : List Bool) → number (remainder (true ∷ low) u) ≡ 0 → places (number low) (length u) (number u) ≡ 0
+  all-places : (u : List Bool) → bits-number (remainder (true ∷ low) u) ≡ 0 → places (bits-number low) (length u) (bits-number u) ≡ 0
   all-places u e =
-      let g = number low in
+      let g = bits-number low in
       let m = length low in
-      ap (places g (length u)) (sym (places-shift g m (number u)))
-      ∙ sym (places-add g m (length u) (number u * 2 ^ m))
-      ∙ ap (λ (n : ℕ). places g n (number u * 2 ^ m)) (add-comm m (length u))
-      ∙ places-add g (length u) m (number u * 2 ^ m)
+      ap (places g (length u)) (sym (places-shift g m (bits-number u)))
+      ∙ sym (places-add g m (length u) (bits-number u * 2 ^ m))
+      ∙ ap (λ (n : ℕ). places g n (bits-number u * 2 ^ m)) (add-comm m (length u))
+      ∙ places-add g (length u) m (bits-number u * 2 ^ m)
       ∙ ap (places g m) (sym (number-remainder low u) ∙ e)
       ∙ places-zero g m
 
   window-live : (a c : ℕ) (w : List Bool) → length w ≤ length low
-      → number (remainder (true ∷ low) (replicate a false ++ (w ++ replicate c false))) ≡ 0 → number w ≡ 0
+      → bits-number (remainder (true ∷ low) (replicate a false ++ (w ++ replicate c false))) ≡ 0 → bits-number w ≡ 0
   window-live a c w h e =
-      let g = number low in
+      let g = bits-number low in
       let v = w ++ replicate c false in
-      places-live (length v) (number w) (lt-of-lt-of-le (number-lt w) (pow-mono (omega arith)))
-      (ap (places g (length v)) (sym (places-shift g a (number w)))
-      ∙ sym (places-add g a (length v) (number w * 2 ^ a))
+      places-live (length v) (bits-number w) (lt-of-lt-of-le (number-lt w) (pow-mono (omega arith)))
+      (ap (places g (length v)) (sym (places-shift g a (bits-number w)))
+      ∙ sym (places-add g a (length v) (bits-number w * 2 ^ a))
       ∙ ap₂ (places g)
       (sym (length-append (replicate a false) v ∙ ap (λ (x : ℕ). x + length v) (length-replicate a false)))
       (sym (number-zeros a v ∙ ap (λ (x : ℕ). x * 2 ^ a) (trailing w c)))
@@ -139,31 +139,31 @@ module _ (k : ℕ) (low : List Bool) (size : length low ≡ suc k) (last : 2 ^ k
 
   -- the remainder of a sum is the sum of the remainders
   linear : (u v : List Bool) → length u ≡ length v
-      → number (remainder (true ∷ low) (plus u v)) ≡ number (remainder (true ∷ low) u) ⊕ number (remainder (true ∷ low) v)
+      → bits-number (remainder (true ∷ low) (plus u v)) ≡ bits-number (remainder (true ∷ low) u) ⊕ bits-number (remainder (true ∷ low) v)
   linear u v l =
-      let g = number low in
+      let g = bits-number low in
       let m = length low in
       number-remainder low (plus u v)
-      ∙ ap₂ (places g) (plus-right u v (omega arith) ∙ sym l) (ap (λ (x : ℕ). x * 2 ^ m) (number-plus u v) ∙ xor-shl (number u) (number v) m)
-      ∙ places-xor g (length u) (number u * 2 ^ m) (number v * 2 ^ m)
+      ∙ ap₂ (places g) (plus-right u v (omega arith) ∙ sym l) (ap (λ (x : ℕ). x * 2 ^ m) (number-plus u v) ∙ xor-shl (bits-number u) (bits-number v) m)
+      ∙ places-xor g (length u) (bits-number u * 2 ^ m) (bits-number v * 2 ^ m)
       ∙ ap₂ bitXor (sym (number-remainder low u))
-      (ap (λ (n : ℕ). places g n (number v * 2 ^ m)) l ∙ sym (number-remainder low v))
+      (ap (λ (n : ℕ). places g n (bits-number v * 2 ^ m)) l ∙ sym (number-remainder low v))
 
   -- two multiples that differ only within as many neighbouring bits as the polynomial has coefficients below its first are the same
-  window : (u v : List Bool) → length u ≡ length v → number (remainder (true ∷ low) u) ≡ 0 → number (remainder (true ∷ low) v) ≡ 0
-      → (a c : ℕ) (w : List Bool) → length w ≤ length low → plus u v ≡ replicate a false ++ (w ++ replicate c false) → number u ≡ number v
+  window : (u v : List Bool) → length u ≡ length v → bits-number (remainder (true ∷ low) u) ≡ 0 → bits-number (remainder (true ∷ low) v) ≡ 0
+      → (a c : ℕ) (w : List Bool) → length w ≤ length low → plus u v ≡ replicate a false ++ (w ++ replicate c false) → bits-number u ≡ bits-number v
   window u v l d d′ a c w h e =
-      same-of-zero (number u) (number v)
-      (sym (number-plus u v) ∙ ap number e ∙ number-zeros a (w ++ replicate c false)
+      same-of-zero (bits-number u) (bits-number v)
+      (sym (number-plus u v) ∙ ap bits-number e ∙ number-zeros a (w ++ replicate c false)
       ∙ ap (λ (n : ℕ). n * 2 ^ a)
       (trailing w c
       ∙ window-live a c w h
-      (ap (λ (x : List Bool). number (remainder (true ∷ low) x)) (sym e) ∙ linear u v l ∙ ap₂ bitXor d d′))
+      (ap (λ (x : List Bool). bits-number (remainder (true ∷ low) x)) (sym e) ∙ linear u v l ∙ ap₂ bitXor d d′))
       ∙ zero-mul (2 ^ a))
 
 -- ---- the theorems
 
-not-right : (cs : List ℕ) → (Right cs → ⊥) → right cs ≡ false
+not-right : (cs : List ℕ) → (IsRight cs → ⊥) → right cs ≡ false
 not-right cs no-way = go (right cs) refl
   where
     go : (b : Bool) → right cs ≡ b → right cs ≡ false
@@ -171,8 +171,8 @@ not-right cs no-way = go (right cs) refl
     go false e = e
 
 -- a unit that differs from a right one in an odd number of bits is not right
-pub odd-Right : (bs cs : List ℕ) → Right bs → odd (weight (changed bs cs)) ≡ true → Right cs → ⊥
-unfolding Right
+pub odd-Right : (bs cs : List ℕ) → IsRight bs → odd (weight (changed bs cs)) ≡ true → IsRight cs → ⊥
+unfolding IsRight
 odd-Right bs cs d o d′ =
     true≢false
     (sym o ∙ odd-weight (changed bs cs) ∙ parity-plus (bits bs) (bits cs)
@@ -182,16 +182,16 @@ pub odd-damage : (bs cs : List ℕ) → right bs ≡ true → odd (weight (chang
 odd-damage bs cs r o = not-right cs (odd-Right bs cs (right-Right bs .0 r) o)
 
 -- a unit that differs from a right one only within 36 neighbouring bits is not right, unless it is the same
-pub burst-Right : (bs cs : List ℕ) → length bs ≡ length cs → Bytes bs → Bytes cs → Right bs → Within 36 bs cs → Right cs → bs ≡ cs
-unfolding Right
+pub burst-Right : (bs cs : List ℕ) → length bs ≡ length cs → AllBytes bs → AllBytes cs → IsRight bs → Within 36 bs cs → IsRight cs → bs ≡ cs
+unfolding IsRight
 burst-Right bs cs l hb hc d w d′ =
     bytes-inj bs cs l hb hc
     (window 35 low length-low (subst (λ (g : ℕ). 2 ^ 35 ≤ g) (sym number-low) (omega arith)) (bits bs) (bits cs)
     (length-bits bs ∙ ap (λ (n : ℕ). 8 * n) l ∙ sym (length-bits cs)) (none (bits bs) d) (none (bits cs) d′)
     (w .before) (w .after) (w .window) (subst (λ (n : ℕ). length (w .window) ≤ n) (sym length-low) (w .narrow)) (w .only))
   where
-    none : (u : List Bool) → Divides polynomial u → number (remainder (true ∷ low) u) ≡ 0
-    none u e = ap (λ (p : List Bool). number (remainder p u)) (sym polynomial-low) ∙ decides u .1 e
+    none : (u : List Bool) → Divides polynomial u → bits-number (remainder (true ∷ low) u) ≡ 0
+    none u e = ap (λ (p : List Bool). bits-number (remainder p u)) (sym polynomial-low) ∙ decides u .1 e
 
-pub burst-damage : (bs cs : List ℕ) → length bs ≡ length cs → Bytes bs → Bytes cs → right bs ≡ true → Within 36 bs cs → (bs ≡ cs → ⊥) → right cs ≡ false
+pub burst-damage : (bs cs : List ℕ) → length bs ≡ length cs → AllBytes bs → AllBytes cs → right bs ≡ true → Within 36 bs cs → (bs ≡ cs → ⊥) → right cs ≡ false
 burst-damage bs cs l hb hc r w other = not-right cs (λ d. other (burst-Right bs cs l hb hc (right-Right bs .0 r) w d))

@@ -14,9 +14,9 @@ use lib.ListN.{length, take, drop, getD, replicate, length-append, length-replic
 use lib.Pow.{mod-pow-add}
 use lib.Bits.{bitXor, xor-self, xor-shifted}
 use Rattle.crc.specs.Poly.{plus, scale, divide, remainder}
-use Rattle.crc.specs.Unit.{polynomial, bits, bits-of, Right, right, Bytes}
+use Rattle.crc.specs.Unit.{polynomial, bits, bits-of, IsRight, right, AllBytes}
 use Rattle.crc.specs.Seal.{check-bytes, with-check, check-of, sealed}
-use Rattle.crc.specs.Register.{number, places}
+use Rattle.crc.specs.Register.{bits-number, places}
 use Rattle.crc.proofs.Xor.{_⊕_, same-of-zero}
 use Rattle.crc.proofs.Places.{places-xor, places-shift, places-add}
 use Rattle.crc.proofs.Numbers.{number-append, number-bits-of, number-inj, number-lt, number-remainder, length-bits-of, trailing}
@@ -39,30 +39,30 @@ module _ (low : List Bool) where
       (length-append (replicate (length low) false) u ∙ ap (λ (n : ℕ). n + length u) (length-replicate (length low) false))
 
   -- the remainder without the room in front
-  roomless : (u : List Bool) (n : ℕ) → length u ≡ length low + n → number (remainder (true ∷ low) u) ≡ places (number low) n (number u)
+  roomless : (u : List Bool) (n : ℕ) → length u ≡ length low + n → bits-number (remainder (true ∷ low) u) ≡ places (bits-number low) n (bits-number u)
   roomless u n l =
       number-remainder low u
-      ∙ ap (λ (k : ℕ). places (number low) k (number u * 2 ^ length low)) l
-      ∙ places-add (number low) (length low) n (number u * 2 ^ length low)
-      ∙ ap (places (number low) n) (places-shift (number low) (length low) (number u))
+      ∙ ap (λ (k : ℕ). places (bits-number low) k (bits-number u * 2 ^ length low)) l
+      ∙ places-add (bits-number low) (length low) n (bits-number u * 2 ^ length low)
+      ∙ ap (places (bits-number low) n) (places-shift (bits-number low) (length low) (bits-number u))
 
   -- what is left of a unit that ends in c
   left-ending : (d c : List Bool) → length c ≡ length low
-      → number (remainder (true ∷ low) (d ++ c)) ≡ number c ⊕ number (remainder (true ∷ low) (d ++ replicate (length low) false))
+      → bits-number (remainder (true ∷ low) (d ++ c)) ≡ bits-number c ⊕ bits-number (remainder (true ∷ low) (d ++ replicate (length low) false))
   left-ending d c l =
-      let g = number low in
+      let g = bits-number low in
       let n = length d in
       roomless (d ++ c) n (length-append d c ∙ ap (λ (k : ℕ). n + k) l ∙ add-comm n (length low))
-      ∙ ap (places g n) (number-append d c ∙ sym (xor-shifted (number c) n (number d) (number-lt d)))
-      ∙ places-xor g n (number c * 2 ^ n) (number d)
-      ∙ ap₂ bitXor (places-shift g n (number c))
+      ∙ ap (places g n) (number-append d c ∙ sym (xor-shifted (bits-number c) n (bits-number d) (number-lt d)))
+      ∙ places-xor g n (bits-number c * 2 ^ n) (bits-number d)
+      ∙ ap₂ bitXor (places-shift g n (bits-number c))
       (ap (places g n) (sym (trailing d (length low)))
       ∙ sym (roomless (d ++ replicate (length low) false) n
       (length-append d (replicate (length low) false) ∙ ap (λ (k : ℕ). n + k) (length-replicate (length low) false) ∙ add-comm n (length low))))
 
 -- ---- the check field
 
-five : (b0 b1 b2 b3 b4 : ℕ) → number (bits (b0 ∷ b1 ∷ b2 ∷ b3 ∷ b4 ∷ []))
+five : (b0 b1 b2 b3 b4 : ℕ) → bits-number (bits (b0 ∷ b1 ∷ b2 ∷ b3 ∷ b4 ∷ []))
     ≡ ((((0 * 2 ^ 8 + b4 % 2 ^ 8) * 2 ^ 8 + b3 % 2 ^ 8) * 2 ^ 8 + b2 % 2 ^ 8) * 2 ^ 8 + b1 % 2 ^ 8) * 2 ^ 8 + b0 % 2 ^ 8
 unfolding bits
 five b0 b1 b2 b3 b4 =
@@ -110,25 +110,25 @@ bits-with bs c =
     ∙ sym (append-assoc (bits t) (bits-of 4 x) (bits-of 36 c))
 
 left-check : (d : List Bool) (c : ℕ)
-    → number (remainder polynomial (d ++ bits-of 36 c)) ≡ (c % 2 ^ 36) ⊕ number (remainder polynomial (d ++ bits-of 36 0))
+    → bits-number (remainder polynomial (d ++ bits-of 36 c)) ≡ (c % 2 ^ 36) ⊕ bits-number (remainder polynomial (d ++ bits-of 36 0))
 left-check d c =
-    subst (λ (p : List Bool). number (remainder p (d ++ bits-of 36 c)) ≡ (c % 2 ^ 36) ⊕ number (remainder p (d ++ bits-of 36 0)))
+    subst (λ (p : List Bool). bits-number (remainder p (d ++ bits-of 36 c)) ≡ (c % 2 ^ 36) ⊕ bits-number (remainder p (d ++ bits-of 36 0)))
     (sym polynomial-low)
     (left-ending low d (bits-of 36 c) (length-bits-of 36 c ∙ sym length-low)
-    ∙ ap₂ (λ (x n : ℕ). x ⊕ number (remainder (true ∷ low) (d ++ replicate n false))) (number-bits-of 36 c) length-low)
+    ∙ ap₂ (λ (x n : ℕ). x ⊕ bits-number (remainder (true ∷ low) (d ++ replicate n false))) (number-bits-of 36 c) length-low)
 
-left-with : (bs : List ℕ) (c : ℕ) → number (remainder polynomial (bits (with-check bs c))) ≡ (c % 2 ^ 36) ⊕ check-of bs
+left-with : (bs : List ℕ) (c : ℕ) → bits-number (remainder polynomial (bits (with-check bs c))) ≡ (c % 2 ^ 36) ⊕ check-of bs
 unfolding check-of
 left-with bs c =
-    ap (λ (u : List Bool). number (remainder polynomial u)) (bits-with bs c) ∙ left-check (data-bits bs) c
-    ∙ ap (λ (u : List Bool). (c % 2 ^ 36) ⊕ number (remainder polynomial u)) (sym (bits-with bs 0))
+    ap (λ (u : List Bool). bits-number (remainder polynomial u)) (bits-with bs c) ∙ left-check (data-bits bs) c
+    ∙ ap (λ (u : List Bool). (c % 2 ^ 36) ⊕ bits-number (remainder polynomial u)) (sym (bits-with bs 0))
 
 check-lt : (bs : List ℕ) → check-of bs < 2 ^ 36
 unfolding check-of
 check-lt bs =
     let u = bits (with-check bs 0) in
     let l : length (remainder polynomial u) ≡ 36 = ap (λ (p : List Bool). length (remainder p u)) polynomial-low ∙ length-remainder low u ∙ length-low in
-    subst (λ (n : ℕ). number (remainder polynomial u) < 2 ^ n) l (number-lt (remainder polynomial u))
+    subst (λ (n : ℕ). bits-number (remainder polynomial u) < 2 ^ n) l (number-lt (remainder polynomial u))
 
 -- ---- a check field written twice
 
@@ -234,18 +234,18 @@ sealed-keeps-bits bs =
     (λ h. ap (λ (s : List ℕ). take n (bits s)) (sealed-short bs h))
 
 -- bytes stay bytes
-bytes-append : (xs ys : List ℕ) → Bytes xs → Bytes ys → Bytes (xs ++ ys)
+bytes-append : (xs ys : List ℕ) → AllBytes xs → AllBytes ys → AllBytes (xs ++ ys)
 bytes-append [] ys hx hy i = hy i
 bytes-append (x ∷ xs) ys hx hy zero = hx 0
 bytes-append (x ∷ xs) ys hx hy (suc i) = bytes-append xs ys (λ j. hx (suc j)) hy i
 
-bytes-take : (n : ℕ) (xs : List ℕ) → Bytes xs → Bytes (take n xs)
+bytes-take : (n : ℕ) (xs : List ℕ) → AllBytes xs → AllBytes (take n xs)
 bytes-take zero xs h i = omega arith
 bytes-take (suc n) [] h i = omega arith
 bytes-take (suc n) (x ∷ xs) h zero = h 0
 bytes-take (suc n) (x ∷ xs) h (suc i) = bytes-take n xs (λ j. h (suc j)) i
 
-bytes-field : (x c : ℕ) → Bytes (check-bytes x c)
+bytes-field : (x c : ℕ) → AllBytes (check-bytes x c)
 bytes-field x c zero = omega arith
 bytes-field x c (suc zero) = omega arith
 bytes-field x c (suc (suc zero)) = omega arith
@@ -253,13 +253,13 @@ bytes-field x c (suc (suc (suc zero))) = omega arith
 bytes-field x c (suc (suc (suc (suc zero)))) = omega arith
 bytes-field x c (suc (suc (suc (suc (suc i))))) = omega arith
 
-pub sealed-bytes : (bs : List ℕ) → Bytes bs → Bytes (sealed bs)
+pub sealed-bytes : (bs : List ℕ) → AllBytes bs → AllBytes (sealed bs)
 unfolding with-check
 sealed-bytes bs b =
     let n = length bs - 5 in
-    by-length (Bytes (sealed bs)) bs
-    (λ h. subst Bytes (sym (sealed-long bs h)) (bytes-append (take n bs) (check-bytes (getD bs n 0) (check-of bs)) (bytes-take n bs b) (bytes-field (getD bs n 0) (check-of bs))))
-    (λ h. subst Bytes (sym (sealed-short bs h)) b)
+    by-length (AllBytes (sealed bs)) bs
+    (λ h. subst AllBytes (sym (sealed-long bs h)) (bytes-append (take n bs) (check-bytes (getD bs n 0) (check-of bs)) (bytes-take n bs b) (bytes-field (getD bs n 0) (check-of bs))))
+    (λ h. subst AllBytes (sym (sealed-short bs h)) b)
 
 -- sealing what is sealed changes nothing
 pub sealed-twice : (bs : List ℕ) → sealed (sealed bs) ≡ sealed bs
@@ -270,25 +270,25 @@ sealed-twice bs =
     let c = check-of bs in
     let s = with-check bs c in
     let l : 5 ≤ length s = omega (arith, length-with bs c h) in
-    let e : check-of s ≡ c = ap (λ (z : List ℕ). number (remainder polynomial (bits z))) (with-twice bs c 0 h) in
+    let e : check-of s ≡ c = ap (λ (z : List ℕ). bits-number (remainder polynomial (bits z))) (with-twice bs c 0 h) in
     ap sealed (sealed-long bs h) ∙ sealed-long s l ∙ ap (with-check s) e ∙ with-twice bs c c h ∙ sym (sealed-long bs h))
     (λ h. ap sealed (sealed-short bs h))
 
 -- a sealed unit is right
-pub sealed-Right : (bs : List ℕ) → 5 ≤ length bs → Right (sealed bs)
-unfolding Right
+pub sealed-Right : (bs : List ℕ) → 5 ≤ length bs → IsRight (sealed bs)
+unfolding IsRight
 sealed-Right bs h =
     let c = check-of bs in
     decides (bits (sealed bs)) .0
-    (ap (λ (s : List ℕ). number (remainder polynomial (bits s))) (sealed-long bs h) ∙ left-with bs c
+    (ap (λ (s : List ℕ). bits-number (remainder polynomial (bits s))) (sealed-long bs h) ∙ left-with bs c
     ∙ ap (λ (x : ℕ). x ⊕ c) (mod-eq-of-lt (check-lt bs)) ∙ xor-self c)
 
 pub sealed-right : (bs : List ℕ) → 5 ≤ length bs → right (sealed bs) ≡ true
 sealed-right bs h = right-Right (sealed bs) .1 (sealed-Right bs h)
 
 -- and no other check field would make it so
-pub no-other-check : (bs : List ℕ) (c : ℕ) → c < 2 ^ 36 → Right (with-check bs c) → c ≡ check-of bs
-unfolding Right
+pub no-other-check : (bs : List ℕ) (c : ℕ) → c < 2 ^ 36 → IsRight (with-check bs c) → c ≡ check-of bs
+unfolding IsRight
 no-other-check bs c h r =
     sym (mod-eq-of-lt h)
     ∙ same-of-zero (c % 2 ^ 36) (check-of bs) (sym (left-with bs c) ∙ decides (bits (with-check bs c)) .1 r)

@@ -11,7 +11,7 @@ use lib.Pow.{pow-pos}
 use lib.Bits.{bitXor, differ, xor-step, xor-zero-r, xor-comm, xor-self, xor-shr, xor-block}
 use Rattle.crc.specs.Poly.{xor}
 use Rattle.crc.specs.Unit.{odd, is-one}
-use Rattle.crc.specs.Register.{digit}
+use Rattle.crc.specs.Register.{bit-value}
 
 infixl 60 _⊕_
 abbrev pub _⊕_ : ℕ → ℕ → ℕ
@@ -84,14 +84,14 @@ is-one-differ (suc (suc x)) y hx hy = absurd (omega arith)
 pub odd-xor : (a b : ℕ) → odd (a ⊕ b) ≡ xor (odd a) (odd b)
 odd-xor a b = ap is-one (xor-low a b) ∙ is-one-differ (a % 2) (b % 2) (mod-lt a two-pos) (mod-lt b two-pos)
 
-digit-is-one : (x : ℕ) → x < 2 → digit (is-one x) ≡ x
+digit-is-one : (x : ℕ) → x < 2 → bit-value (is-one x) ≡ x
 digit-is-one zero h = refl
 digit-is-one (suc zero) h = refl
 digit-is-one (suc (suc x)) h = omega arith
 
-pub digit-odd : (n : ℕ) → digit (odd n) ≡ n % 2
+pub digit-odd : (n : ℕ) → bit-value (odd n) ≡ n % 2
 digit-odd n = digit-is-one (n % 2) (mod-lt n two-pos)
 
-pub digit-lt : (b : Bool) → digit b < 2
+pub digit-lt : (b : Bool) → bit-value b < 2
 digit-lt true = omega arith
 digit-lt false = omega arith

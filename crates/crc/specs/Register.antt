@@ -8,13 +8,13 @@ use lib.Bits.{bitXor}
 use Rattle.crc.specs.Unit.{odd}
 
 -- the number of a list of coefficients, the first in bit 0
-abbrev pub digit : Bool → ℕ
-digit false = 0
-digit true = 1
+abbrev pub bit-value : Bool → ℕ
+bit-value false = 0
+bit-value true = 1
 
-abbrev pub number : List Bool → ℕ
-number [] = 0
-number (b ∷ u) = number u * 2 + digit b
+abbrev pub bits-number : List Bool → ℕ
+bits-number [] = 0
+bits-number (b ∷ u) = bits-number u * 2 + bit-value b
 
 -- one place of the division, and n places, over the number g of the coefficients below the polynomial's first
 abbrev pub pick : Bool → ℕ → ℕ

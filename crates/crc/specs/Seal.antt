@@ -8,7 +8,7 @@ use lib.Dec.{leb}
 use lib.ListN.{length, take, getD}
 use Rattle.crc.specs.Poly.{remainder}
 use Rattle.crc.specs.Unit.{bits, polynomial}
-use Rattle.crc.specs.Register.{number}
+use Rattle.crc.specs.Register.{bits-number}
 
 -- the last five bytes with the check c; x is the byte that the check shares with other fields
 abbrev pub check-bytes : ℕ → ℕ → List ℕ
@@ -20,7 +20,7 @@ with-check bs c = take (length bs - 5) bs ++ check-bytes (getD bs (length bs - 5
 
 -- the check of a unit: what the division leaves of it with zeros in the check field
 unfoldable pub check-of : List ℕ → ℕ
-check-of bs = number (remainder polynomial (bits (with-check bs 0)))
+check-of bs = bits-number (remainder polynomial (bits (with-check bs 0)))
 
 -- the unit with its check; a list too short to hold one stays as it is
 unfoldable pub sealed : List ℕ → List ℕ

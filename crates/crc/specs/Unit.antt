@@ -43,8 +43,8 @@ bits [] = []
 bits (b ∷ bs) = bits-of 8 b ++ bits bs
 
 -- a unit is right exactly when the polynomial divides it
-unfoldable pub Right : List ℕ → Type 0
-Right bs = Divides polynomial (bits bs)
+unfoldable pub IsRight : List ℕ → Type 0
+IsRight bs = Divides polynomial (bits bs)
 
 -- the same as a test: the division leaves nothing. `right-Right` of proofs/Divides.antt says that it is the same.
 abbrev pub all-zero : List Bool → Bool
@@ -59,8 +59,8 @@ unfoldable pub flit-right : List ℕ → ℕ → Bool
 flit-right s at = leb (at + 64) (length s) && right (take 64 (drop at s))
 
 -- each element is a byte; past the end `getD` answers 0
-abbrev pub Bytes : List ℕ → Type 0
-Bytes bs = (i : ℕ) → getD bs i 0 < 256
+abbrev pub AllBytes : List ℕ → Type 0
+AllBytes bs = (i : ℕ) → getD bs i 0 < 256
 
 -- the bits in which two units of one length differ, and how many they are
 abbrev pub changed : List ℕ → List ℕ → List Bool

@@ -5,8 +5,8 @@
 ghost use mathlib.Core.Path.{_≡_};
 ghost use mathlib.Core.Bool.{true};
 ghost use Rattle.crc.specs.Poly.{remainder as remainder-of};
-ghost use Rattle.crc.specs.Unit.{bits, polynomial, Right, right as right-of, flit-right as flit-right-of};
-ghost use Rattle.crc.specs.Register.{number, table, take-byte, continued as continuedOf};
+ghost use Rattle.crc.specs.Unit.{bits, polynomial, IsRight, right as right-of, flit-right as flit-right-of};
+ghost use Rattle.crc.specs.Register.{bits-number, table, take-byte, continued as continuedOf};
 ghost use Rattle.crc.specs.Seal.{with-check, sealed};
 ghost use mathlib.Core.List.{_++_};
 ghost use Prim.Native.Nat.{_≤_};
@@ -15,7 +15,7 @@ ghost use lib.ListN.{length};
 // Whether a unit is right: as the test says, and so exactly when the polynomial divides it.
 pub fn right(unit: &[u8]) -> bool
     ensures { λ r. ⌜ r ≡ right-of (now (unit .entry)) ⌝ }
-    ensures { λ r. ⌜ (r ≡ true → Right (now (unit .entry))) × (Right (now (unit .entry)) → r ≡ true) ⌝ }
+    ensures { λ r. ⌜ (r ≡ true → IsRight (now (unit .entry))) × (IsRight (now (unit .entry)) → r ≡ true) ⌝ }
 {
     let t = laid();
     right_with(&t, unit)
@@ -83,7 +83,7 @@ pub fn seal_with(t: &[u64; 256], unit: &mut [u8])
 
 // The remainder of a unit, or of the first part of one.
 pub fn remainder(unit: &[u8]) -> u64
-    ensures { λ r. ⌜ r ≡ number (remainder-of polynomial (bits (now (unit .entry)))) ⌝ }
+    ensures { λ r. ⌜ r ≡ bits-number (remainder-of polynomial (bits (now (unit .entry)))) ⌝ }
 {
     let t = laid();
     continued(&t, 0, unit)

@@ -1,13 +1,13 @@
 // Drives two ends of a link from text: a command a line on standard input, and a line for each on standard output. Here bytes are
 // only moved: what is printed is said by the library.
+use drive_pair::Pair;
 use libc::STDERR_FILENO;
 use libc::STDIN_FILENO;
-use pair::Drive;
 ghost use mathlib.Core.Path.{_≡_};
 ghost use Prim.Native.Nat.{_+_, _≤_, _<_};
 ghost use lib.ListN.{length};
 ghost use Rattle.crc.specs.Register.{table};
-ghost use Rattle.pair.specs.Pair.{Ready};
+ghost use Rattle.drive_pair.specs.Pair.{Ready};
 
 // How far the input is used: what stands in its buffer from one place up to another is not. The turns left, and whether one more is to
 // come.
@@ -21,7 +21,7 @@ struct Turn {
 
 // What is kept after the input, and whether a read or a write failed.
 struct Driven {
-    kept: Drive,
+    kept: Pair,
     failed: bool,
 }
 
@@ -44,7 +44,7 @@ fn drive() {
     let mut bytes = [0u8; 2000];
     let mut input = io::large_buffer();
     let mut out = [0u8; 131072];
-    let begun = drive_lib::begin(
+    let begun = drive_session::begin(
         &mut store_a,
         &mut hold_a,
         &mut store_b,
@@ -65,7 +65,7 @@ fn drive() {
         &mut out,
     );
     let kept = driven.kept;
-    let last = drive_lib::finish(
+    let last = drive_session::finish(
         &t,
         kept,
         &mut store_a,
@@ -83,7 +83,7 @@ fn drive() {
 // uses up. In each turn, as many lines are printed as have room.
 fn drive_all(
     t: &[u64; 256],
-    d: Drive,
+    d: Pair,
     store_a: &mut [u8],
     hold_a: &mut [u8],
     store_b: &mut [u8],
@@ -102,7 +102,7 @@ fn drive_all(
         let now = read_more(turn, input);
         let from = now.from;
         let to = now.to;
-        let fed = drive_lib::feed(
+        let fed = drive_session::feed(
             t,
             kept,
             store_a,
@@ -114,8 +114,8 @@ fn drive_all(
             &input[from..to],
             out,
         );
-        let written = output::write(out, fed.bytes);
-        kept = fed.drive;
+        let written = text_out::write(out, fed.bytes);
+        kept = fed.pair;
         turn = next_turn(now, fed.used, written);
     }
     Driven {
@@ -177,6 +177,6 @@ fn write_last(out: &[u8], bytes: usize, failed: bool)
     requires { ⌜ bytes ≤ length (now out) ⌝ }
 {
     if !failed {
-        output::write(out, bytes);
+        text_out::write(out, bytes);
     }
 }

@@ -6,13 +6,13 @@ use Prim.Native.Nat.{ℕ}
 use borrow.Author.Tests.{eqb-true, not-false}
 use lib.Dec.{eqb}
 use lib.ListN.{length}
-use Rattle.ends.specs.Refusals.{store-is, sound, is-down}
-use Rattle.ends.specs.declared.state.End.{End}
-use Rattle.ends.specs.declared.state.Refusal.the-variants as refusal
-use Rattle.ends.specs.declared.state.Verdict.the-variants.{Admitted}
-use Rattle.ends.proofs.Tests.{and-l, and-r}
-use Rattle.ends.proofs.Verdicts.{past}
-use Rattle.receive.specs.Receive.{verdict}
+use Rattle.end_state.specs.Refusals.{store-is, sound, is-down}
+use Rattle.end_state.specs.declared.End.{End}
+use Rattle.end_state.specs.declared.Refusal.the-variants as refusal
+use Rattle.end_state.specs.declared.Verdict.the-variants.{Admitted}
+use Rattle.end_state.proofs.Tests.{and-l, and-r}
+use Rattle.end_state.proofs.Verdicts.{past}
+use Rattle.receive.specs.Receive.{receive-verdict}
 
 pub record Admission (e : End) (store : List ℕ) (hold flit : ℕ) : Type 0 where
   pub its-store : store-is e (length store) ≡ true
@@ -21,8 +21,8 @@ pub record Admission (e : End) (store : List ℕ) (hold flit : ℕ) : Type 0 whe
   pub flit-fits : flit ≡ 64
   pub up : is-down (e .mode) ≡ false
 
-pub admission : (e : End) (store : List ℕ) (hold flit : ℕ) → verdict e store hold flit ≡ Admitted → Admission e store hold flit
-unfolding verdict
+pub admission : (e : End) (store : List ℕ) (hold flit : ℕ) → receive-verdict e store hold flit ≡ Admitted → Admission e store hold flit
+unfolding receive-verdict
 admission e store hold flit h =
     let lengths = past (not (store-is e (length store) && eqb hold 576)) refusal.Store _ h in
     let state = past (not (sound e store)) refusal.State _ (lengths .rest) in

@@ -10,21 +10,21 @@ use native.Mathlib.Nat.{add-zero}
 use borrow.Author.Tests.{ltb-true, ltb-false}
 use lib.Dec.{ltb}
 use lib.ListN.{length}
-use Rattle.numbers.specs.Numbers.{width, after, difference}
-use Rattle.numbers.proofs.Laws.{after-lt, difference-split, further}
-use Rattle.ends.specs.Update.{with-acknowledged}
-use Rattle.ends.specs.Ring.{begun, place, walk, walked}
-use Rattle.ends.specs.Refusals.{cursor-at, sent-at, acknowledged-at, store-is, sound}
-use Rattle.ends.specs.declared.state.End.{End}
-use Rattle.ends.specs.declared.walk.Walk.{Walk}
-use Rattle.ends.proofs.Facts.{stored-is, sound-is}
-use Rattle.ends.proofs.Places.{place-under}
-use Rattle.ends.proofs.Tests.{cond-either}
-use Rattle.ends.proofs.Walks.{fair, next-border, sound-before}
-use Rattle.arrivals.specs.Arrivals.{past-sent}
-use Rattle.acknowledge.specs.Acknowledge.{freed-by, freed, sent-anew, acknowledged}
-use Rattle.acknowledge.proofs.Borders.{border-within, border-found}
-use Rattle.effects.proofs.Covering.{Fitting}
+use Rattle.flit_number.specs.Numbers.{width, after, difference}
+use Rattle.flit_number.proofs.Laws.{after-lt, difference-split, further}
+use Rattle.end_state.specs.Update.{with-acknowledged}
+use Rattle.end_state.specs.Ring.{walk-begun, ring-place, walk-over, walked}
+use Rattle.end_state.specs.Refusals.{cursor-at, sent-at, acknowledged-at, store-is, sound}
+use Rattle.end_state.specs.declared.End.{End}
+use Rattle.end_state.specs.declared.walk.Walk.{Walk}
+use Rattle.end_state.proofs.Facts.{stored-is, sound-is}
+use Rattle.end_state.proofs.Places.{place-under}
+use Rattle.end_state.proofs.Tests.{cond-either}
+use Rattle.end_state.proofs.Walks.{fair, next-border, sound-before}
+use Rattle.receive_test.specs.Arrivals.{past-sent}
+use Rattle.receive_free.specs.Acknowledge.{freed-by, freed, sent-anew, acknowledged}
+use Rattle.receive_free.proofs.Borders.{border-within, border-found}
+use Rattle.receive_state.proofs.Covering.{Fitting}
 use Rattle.receive.proofs.Shifted.{walk-on, border-last, begins}
 use Rattle.receive.proofs.Sides.{Sending, Sends}
 
@@ -39,7 +39,7 @@ none-between o h = omega arith
 
 -- the cursor at the oldest unit
 pub anew-sends : (e : End) (store : List ℕ) → e .oldest .0 < 2 ^ 16 → Sends e store → Sends (sent-anew true e) store
-unfolding walk begun
+unfolding walk-over walk-begun
 anew-sends e store h s =
     let z = none-between (e .oldest .0) h in
     record {
@@ -77,11 +77,11 @@ module _ (e : End) (store : List ℕ) (n : ℕ) (fit : Fitting e) (its : store-i
   sent-held = sound-is e store ok .numbers .sent
 
   gone-reach : gone ≤ reach
-  gone-reach = border-within (e .capacity .0) (e .first) (begun (e .kept .0)) store reach
+  gone-reach = border-within (e .capacity .0) (e .first) (walk-begun (e .kept .0)) store reach
 
   on-border : walked e store gone .border ≡ true
-  unfolding begun
-  on-border = border-found (e .capacity .0) (e .first) (begun (e .kept .0)) store refl reach
+  unfolding walk-begun
+  on-border = border-found (e .capacity .0) (e .first) (walk-begun (e .kept .0)) store refl reach
 
   sound-there : walked e store gone .sound ≡ true
   sound-there =
@@ -94,13 +94,13 @@ module _ (e : End) (store : List ℕ) (n : ℕ) (fit : Fitting e) (its : store-i
 
   -- the walk goes on as before
   onward : (m : ℕ) → gone + m ≤ e .held .0
-      → walk (e .capacity .0) (place (e .capacity .0) (e .first) gone) (begun left-over) store m ≡ walked e store (gone + m)
+      → walk-over (e .capacity .0) (ring-place (e .capacity .0) (e .first) gone) (walk-begun left-over) store m ≡ walked e store (gone + m)
   onward m h =
       let c = sound-is e store ok .counts in
       let f = fair e store gone (c .kept) in
-      ap (λ (w : Walk). walk (e .capacity .0) (place (e .capacity .0) (e .first) gone) w store m)
+      ap (λ (w : Walk). walk-over (e .capacity .0) (ring-place (e .capacity .0) (e .first) gone) w store m)
       (sym (begins (walked e store gone) (f .at-border on-border) on-border sound-there))
-      ∙ walk-on (e .capacity .0) (e .first) (begun (e .kept .0)) store gone m (c .first) (omega (arith, c .held))
+      ∙ walk-on (e .capacity .0) (e .first) (walk-begun (e .kept .0)) store gone m (c .first) (omega (arith, c .held))
 
   -- the acknowledged flits that stay lie inside the unit that begins there
   inside-unit : gone < e .held .0 → reach ≤ gone + left-over
@@ -110,7 +110,7 @@ module _ (e : End) (store : List ℕ) (n : ℕ) (fit : Fitting e) (its : store-i
       go false t = ltb-false (gone + left-over) reach t
       go true t =
           let l = ltb-true (gone + left-over) reach t in
-          let x = border-last (e .capacity .0) (e .first) (begun (e .kept .0)) store reach (suc (gone + left-over)) (omega arith) (omega arith) in
+          let x = border-last (e .capacity .0) (e .first) (walk-begun (e .kept .0)) store reach (suc (gone + left-over)) (omega arith) (omega arith) in
           let y = ap (λ (w : Walk). w .border) (next-border e store (sound-is e store ok .counts .kept) gone on-border) in
           let z : _≡_ {A = ℕ} 0 1 = cc in
           absurd (omega arith)
@@ -144,7 +144,7 @@ module _ (e : End) (store : List ℕ) (n : ℕ) (fit : Fitting e) (its : store-i
 
   -- with a cursor d flits after the new oldest, on a border and not past sent
   freed-sends : (x d : ℕ) → difference width x oldest-left ≡ d → gone + d ≤ sent-at e → walked e store (gone + d) .border ≡ true
-      → Sending (e .capacity .0) (place (e .capacity .0) (e .first) gone) (e .held .0 - gone) left-over oldest-left x (e .sent .0) first-open store
+      → Sending (e .capacity .0) (ring-place (e .capacity .0) (e .first) gone) (e .held .0 - gone) left-over oldest-left x (e .sent .0) first-open store
   freed-sends x d h k b =
       let c = sound-is e store ok .counts in
       let u = sound-is e store ok .units in
@@ -162,7 +162,7 @@ module _ (e : End) (store : List ℕ) (n : ℕ) (fit : Fitting e) (its : store-i
         border = ap (λ (v : Walk). v .border) w ∙ u .border;
         acceptable = ap (λ (v : Walk). v .sound) w ∙ u .acceptable;
         cursor-border =
-            ap (λ (m : ℕ). walk (e .capacity .0) (place (e .capacity .0) (e .first) gone) (begun left-over) store m .border) h
+            ap (λ (m : ℕ). walk-over (e .capacity .0) (ring-place (e .capacity .0) (e .first) gone) (walk-begun left-over) store m .border) h
             ∙ ap (λ (v : Walk). v .border) (onward d (omega (arith, sent-held)))
             ∙ b;
       }

@@ -6,17 +6,17 @@ use Prim.Native.Nat.{ℕ, _<_, _≤_}
 use native.Mathlib.Omega.{arith}
 use borrow.Author.Tests.{ltb-true, ltb-false, leb-false, eqb-true, eqb-false, not-true, lt-ltb, eq-eqb}
 use lib.Dec.{ltb, leb, eqb}
-use Rattle.flits.specs.Fields.{replay, idle}
-use Rattle.flits.specs.declared.Fields.{Fields}
-use Rattle.ends.specs.declared.state.End.{End}
-use Rattle.ends.specs.declared.state.Mode.{Mode}
-use Rattle.ends.specs.declared.state.Mode.the-variants.{Run, Wait, Down}
-use Rattle.ends.proofs.Tests.{and-l, and-r, cond-either}
-use Rattle.arrivals.specs.Arrivals.{holds, closes, run-wrong, stall-wrong, straddles, damaged, skips}
-use Rattle.answers.specs.Answers.{replay-answer, plain-answer, run-answer, wait-answer, mode-answer}
-use Rattle.answers.specs.declared.Answer.{Answer}
-use Rattle.answers.specs.declared.Answer.the-variants as answer
-use Rattle.answers.proofs.Found.{Nothing, replay-by, plain-by}
+use Rattle.flit_read.specs.Fields.{replay-kind, idle-kind}
+use Rattle.flit_read.specs.declared.Fields.{Fields}
+use Rattle.end_state.specs.declared.End.{End}
+use Rattle.end_state.specs.declared.Mode.{Mode}
+use Rattle.end_state.specs.declared.Mode.the-variants.{Run, Wait, Down}
+use Rattle.end_state.proofs.Tests.{and-l, and-r, cond-either}
+use Rattle.receive_test.specs.Arrivals.{holds, closes, run-wrong, stall-wrong, straddles, damaged, skips}
+use Rattle.receive_answer.specs.Answers.{replay-answer, plain-answer, run-answer, wait-answer, mode-answer}
+use Rattle.receive_answer.specs.declared.Answer.{Answer}
+use Rattle.receive_answer.specs.declared.Answer.the-variants as answer
+use Rattle.receive_answer.proofs.Found.{Nothing, replay-by, plain-by}
 use Rattle.receive.proofs.Sides.{Receives}
 
 pub record Owing (e : End) : Type 0 where
@@ -54,11 +54,11 @@ or-r false b h = h
 or-r true b h = let z : _≡_ {A = ℕ} 0 1 = cc in absurd (omega arith)
 
 -- a run length that is neither skipped nor a replay or idle flit's
-control-run : (r : ℕ) → r ≤ 15 → (eqb r 9 || (leb 11 r && leb r 14)) ≡ false → eqb r replay ≡ false → eqb r idle ≡ false → r ≤ 8
+control-run : (r : ℕ) → r ≤ 15 → (eqb r 9 || (leb 11 r && leb r 14)) ≡ false → eqb r replay-kind ≡ false → eqb r idle-kind ≡ false → r ≤ 8
 control-run r h s p i = go (leb 11 r) refl (leb r 14) refl
   where
     a : (r ≡ 9 → ⊥) × (r ≡ 10 → ⊥) × (r ≡ 15 → ⊥)
-    a = (eqb-false r 9 (or-l (eqb r 9) (leb 11 r && leb r 14) s), eqb-false r replay p, eqb-false r idle i)
+    a = (eqb-false r 9 (or-l (eqb r 9) (leb 11 r && leb r 14) s), eqb-false r replay-kind p, eqb-false r idle-kind i)
 
     small : r < 11 → (r ≡ 9 → ⊥) → (r ≡ 10 → ⊥) → r ≤ 8
     small k x y = omega arith
@@ -91,7 +91,7 @@ none-held false g o r h l k m n = go (ltb 0 o) refl
         let z : _≡_ {A = ℕ} 0 1 = cc in
         absurd (omega arith)
 
-idle-alone : (e : End) (f : Fields) (b : Bool) → Receives e → holds e ≡ false → damaged e f b ≡ false → eqb (f .run .0) idle ≡ true
+idle-alone : (e : End) (f : Fields) (b : Bool) → Receives e → holds e ≡ false → damaged e f b ≡ false → eqb (f .run .0) idle-kind ≡ true
     → e .gathered .0 ≡ 0
 unfolding holds closes damaged run-wrong
 idle-alone e f b r h d i =
@@ -99,7 +99,7 @@ idle-alone e f b r h d i =
     let v = e .stalled && ltb (f .run .0) 9 in
     let x = or-l (not b || (u || v)) (stall-wrong e f) (or-l (not b || (u || v) || stall-wrong e f) (straddles e f) d) in
     none-held (e .stalled) (e .gathered .0) (e .owed .0) (f .run .0) (r .none-stalled) (r .gathered-in) h (or-l u v (or-r (not b) (u || v) x))
-    (eqb-true (f .run .0) idle i)
+    (eqb-true (f .run .0) idle-kind i)
 
 owing : (e : End) → holds e ≡ true → Owing e
 unfolding holds
@@ -114,8 +114,8 @@ replay-grounds e f =
     replay-by (λ a. Grounds a e f) e f (λ n. record {})
     (λ u v. let a : Announced f = record { previous = ltb-false 8 (f .previous .0) u } in (a, a))
 
-plain-grounds : (e : End) (f : Fields) → f .run .0 ≤ 15 → skips f ≡ false → eqb (f .run .0) replay ≡ false
-    → (eqb (f .run .0) idle ≡ true → e .gathered .0 ≡ 0) → Grounds (plain-answer e f) e f
+plain-grounds : (e : End) (f : Fields) → f .run .0 ≤ 15 → skips f ≡ false → eqb (f .run .0) replay-kind ≡ false
+    → (eqb (f .run .0) idle-kind ≡ true → e .gathered .0 ≡ 0) → Grounds (plain-answer e f) e f
 unfolding skips
 plain-grounds e f h s p i =
     plain-by (λ a. Grounds a e f) e f (λ n. record {}) (λ u v. record { none = i v }) (λ u v. record { run = control-run (f .run .0) h s p v })
@@ -132,8 +132,8 @@ grounds Run e f b r h =
     (λ u.
     cond-either P (skips f) _ _ (λ v. record {})
     (λ v.
-    cond-either P (eqb (f .run .0) replay) _ _ (λ w. replay-grounds e f) (λ w. plain-grounds e f h v w (idle-alone e f b r t u)))))
+    cond-either P (eqb (f .run .0) replay-kind) _ _ (λ w. replay-grounds e f) (λ w. plain-grounds e f h v w (idle-alone e f b r t u)))))
 grounds Wait e f b r h =
     let P : Answer → Type 0 = λ a. Grounds a e f in
-    cond-either P (b && eqb (f .run .0) replay) _ _ (λ t. replay-grounds e f) (λ t. record {})
+    cond-either P (b && eqb (f .run .0) replay-kind) _ _ (λ t. replay-grounds e f) (λ t. record {})
 grounds Down e f b r h = record {}

@@ -6,13 +6,13 @@ use mathlib.Core.Path.{_≡_}
 use Prim.Native.Nat.{ℕ, _<_, _≤_}
 use borrow.Author.Tests.{lt-ltb, le-leb}
 use lib.Dec.{ltb, leb, eqb}
-use Rattle.numbers.specs.Numbers.{width, difference}
-use Rattle.ends.specs.Ring.{begun, walk}
-use Rattle.ends.specs.Refusals.{counts-sound, sound}
-use Rattle.ends.specs.declared.state.End.{End}
-use Rattle.ends.proofs.Facts.{sound-is}
-use Rattle.ends.proofs.Holds.{sound-holds, counts-of, numbers-hold, units-hold}
-use Rattle.ends.proofs.Tests.{and-l, and-r, and-true}
+use Rattle.flit_number.specs.Numbers.{width, difference}
+use Rattle.end_state.specs.Ring.{walk-begun, walk-over}
+use Rattle.end_state.specs.Refusals.{counts-sound, sound}
+use Rattle.end_state.specs.declared.End.{End}
+use Rattle.end_state.proofs.Facts.{sound-is}
+use Rattle.end_state.proofs.Holds.{sound-holds, counts-of, numbers-hold, units-hold}
+use Rattle.end_state.proofs.Tests.{and-l, and-r, and-true}
 
 pub record Sending (capacity first held kept oldest cursor sent acknowledged : ℕ) (store : List ℕ) : Type 0 where
   pub first-in : first < capacity
@@ -23,9 +23,9 @@ pub record Sending (capacity first held kept oldest cursor sent acknowledged : �
   pub sent-in : difference width sent oldest ≤ held
   pub acknowledged-in : difference width acknowledged oldest ≤ cond (ltb 0 held) kept 0
   pub acknowledged-sent : difference width acknowledged oldest ≤ difference width sent oldest
-  pub border : walk capacity first (begun kept) store held .border ≡ true
-  pub acceptable : walk capacity first (begun kept) store held .sound ≡ true
-  pub cursor-border : walk capacity first (begun kept) store (difference width cursor oldest) .border ≡ true
+  pub border : walk-over capacity first (walk-begun kept) store held .border ≡ true
+  pub acceptable : walk-over capacity first (walk-begun kept) store held .sound ≡ true
+  pub cursor-border : walk-over capacity first (walk-begun kept) store (difference width cursor oldest) .border ≡ true
 
 abbrev pub Sends : End → List ℕ → Type 0
 Sends e store =

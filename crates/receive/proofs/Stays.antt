@@ -8,27 +8,27 @@ use borrow.Author.Tests.{eqb-false}
 use lib.Dec.{eqb}
 use lib.ListN.{length}
 use Rattle.crc.specs.Unit.{right}
-use Rattle.flits.specs.Fields.{fields-of}
-use Rattle.flits.specs.declared.Fields.{Fields}
-use Rattle.flits.proofs.Laws.{fields-fit}
-use Rattle.ends.specs.Update.{with-gathered, with-owed, with-position, with-stalled, with-discards, with-pending}
-use Rattle.ends.specs.Refusals.{store-is, sound}
-use Rattle.ends.specs.declared.state.End.{End}
-use Rattle.ends.specs.declared.state.Mode.{Mode}
-use Rattle.ends.specs.declared.state.Mode.the-variants.{Run, Wait, Down}
-use Rattle.ends.specs.declared.state.Verdict.{Verdict}
-use Rattle.ends.specs.declared.state.Verdict.the-variants.{Refused, Admitted}
-use Rattle.ends.proofs.Tests.{cond-either}
-use Rattle.arrivals.specs.Arrivals.{newly-covered, past-sent, checked}
-use Rattle.answers.specs.Answers.{mode-answer}
-use Rattle.answers.specs.declared.Answer.{Answer}
-use Rattle.answers.specs.declared.Answer.the-variants as answer
-use Rattle.answers.proofs.Found.{Fits, found}
-use Rattle.acknowledge.specs.Acknowledge.{sent-anew, acknowledged}
-use Rattle.taken.specs.Taken.{idled, closed, delivered, informed, replay-taken}
-use Rattle.effects.specs.Effects.{waiting, discarded, ahead-in, end-after}
-use Rattle.receive.specs.Receive.{verdict, answer-by, answer-to, receive}
-use Rattle.effects.proofs.Covering.{Fitting}
+use Rattle.flit_read.specs.Fields.{fields-of}
+use Rattle.flit_read.specs.declared.Fields.{Fields}
+use Rattle.flit_read.proofs.Laws.{fields-fit}
+use Rattle.end_state.specs.Update.{with-gathered, with-owed, with-position, with-stalled, with-discards, with-pending}
+use Rattle.end_state.specs.Refusals.{store-is, sound}
+use Rattle.end_state.specs.declared.End.{End}
+use Rattle.end_state.specs.declared.Mode.{Mode}
+use Rattle.end_state.specs.declared.Mode.the-variants.{Run, Wait, Down}
+use Rattle.end_state.specs.declared.Verdict.{Verdict}
+use Rattle.end_state.specs.declared.Verdict.the-variants.{Refused, Admitted}
+use Rattle.end_state.proofs.Tests.{cond-either}
+use Rattle.receive_test.specs.Arrivals.{newly-covered, past-sent, checked}
+use Rattle.receive_answer.specs.Answers.{mode-answer}
+use Rattle.receive_answer.specs.declared.Answer.{Answer}
+use Rattle.receive_answer.specs.declared.Answer.the-variants as answer
+use Rattle.receive_answer.proofs.Found.{Fits, found}
+use Rattle.receive_free.specs.Acknowledge.{sent-anew, acknowledged}
+use Rattle.receive_take.specs.Taken.{idled, closed, delivered, informed, replay-taken}
+use Rattle.receive_state.specs.Effects.{waiting, discarded, ahead-in, end-after}
+use Rattle.receive.specs.Receive.{receive-verdict, answer-by, answer-to, receive}
+use Rattle.receive_state.proofs.Covering.{Fitting}
 use Rattle.receive.proofs.Freed.{acknowledged-sends, acknowledged-apart, anew-sends}
 use Rattle.receive.proofs.Grounds.{Grounds, grounds}
 use Rattle.receive.proofs.Sides.{Sends, Receives, sending, receiving, both-sound}
@@ -283,7 +283,7 @@ module _ (e : End) (store : List ℕ) (f : Fields) (fit : Fitting e) (its : stor
 module _ (e : End) (store hold flit : List ℕ) (fit : Fitting e) (its : store-is e (length store) ≡ true) (ok : sound e store ≡ true) where
   received-kept : Kept e (receive e store hold flit .end) store
   unfolding receive answer-to
-  received-kept = go (verdict e store (length hold) (length flit))
+  received-kept = go (receive-verdict e store (length hold) (length flit))
     where
       go : (v : Verdict) → Kept e (end-after (answer-by v e hold flit) e store (fields-of flit)) store
       go (Refused r) = after-kept e store (fields-of flit) fit its ok (answer.Refused r) (record {}) (record {})

@@ -7,20 +7,20 @@ use Prim.Native.Nat.{ℕ, _%_, _^_, _≤_}
 use native.Mathlib.Omega.{arith}
 use lib.ListN.{length, take, length-append}
 use lib.Seq.{length-take-le}
-use Rattle.numbers.specs.declared.FlitCount.{FlitCount}
-use Rattle.flits.specs.Bytes.{bytes}
-use Rattle.flits.specs.Fields.{content}
-use Rattle.compose.specs.Flits.{bare-control}
-use Rattle.flits.proofs.Laws.{length-bytes}
-use Rattle.ends.specs.Ring.{flit-at, put-at}
-use Rattle.ends.specs.declared.state.End.{End}
-use Rattle.ends.specs.declared.state.Verdict.{Verdict}
-use Rattle.ends.specs.declared.state.Verdict.the-variants.{Refused, Admitted}
-use Rattle.ends.proofs.Facts.{sound-is}
-use Rattle.ends.proofs.Places.{put-length, flit-put-same, flit-put-other}
-use Rattle.answers.specs.declared.Answer.{Answer}
-use Rattle.answers.specs.declared.Answer.the-variants as answer
-use Rattle.receive.specs.Receive.{verdict, hold-after, answer-to, receive-hold}
+use Rattle.flit_number.specs.declared.FlitCount.{FlitCount}
+use Rattle.flit_read.specs.Bytes.{bytes}
+use Rattle.flit_read.specs.Fields.{content}
+use Rattle.flit_write.specs.Flits.{bare-control}
+use Rattle.flit_read.proofs.Laws.{length-bytes}
+use Rattle.end_state.specs.Ring.{flit-at, put-at}
+use Rattle.end_state.specs.declared.End.{End}
+use Rattle.end_state.specs.declared.Verdict.{Verdict}
+use Rattle.end_state.specs.declared.Verdict.the-variants.{Refused, Admitted}
+use Rattle.end_state.proofs.Facts.{sound-is}
+use Rattle.end_state.proofs.Places.{put-length, flit-put-same, flit-put-other}
+use Rattle.receive_answer.specs.declared.Answer.{Answer}
+use Rattle.receive_answer.specs.declared.Answer.the-variants as answer
+use Rattle.receive.specs.Receive.{receive-verdict, hold-after, answer-to, receive-hold}
 use Rattle.receive.proofs.Admission.{admission}
 use Rattle.receive.proofs.Unchanged.{refused-changes-nothing}
 
@@ -98,9 +98,9 @@ module _ (e : End) (store hold flit : List ℕ) where
   -- whatever receive answers
   pub written-beside : Beside hold (receive-hold e store hold flit) (e .gathered .0)
   unfolding receive-hold
-  written-beside = go (verdict e store (length hold) (length flit)) refl
+  written-beside = go (receive-verdict e store (length hold) (length flit)) refl
     where
-      go : (v : Verdict) → verdict e store (length hold) (length flit) ≡ v → Beside hold (receive-hold e store hold flit) (e .gathered .0)
+      go : (v : Verdict) → receive-verdict e store (length hold) (length flit) ≡ v → Beside hold (receive-hold e store hold flit) (e .gathered .0)
       go (Refused r) t = rw (refused-changes-nothing e store hold flit r t .1) (same-beside hold (e .gathered .0))
       go Admitted t =
           let m = admission e store (length hold) (length flit) t in
@@ -108,7 +108,7 @@ module _ (e : End) (store hold flit : List ℕ) where
           after-beside e hold flit (m .hold-fits) (omega (arith, c .gathered, c .owed)) (m .flit-fits) (answer-to e store hold flit)
 
   -- and at that place stands the held flit, or the delivered unit's control flit
-  pub held-written : verdict e store (length hold) (length flit) ≡ Admitted → answer-to e store hold flit ≡ answer.Held
+  pub held-written : receive-verdict e store (length hold) (length flit) ≡ Admitted → answer-to e store hold flit ≡ answer.Held
       → flit-at (receive-hold e store hold flit) (e .gathered .0) ≡ flit
   unfolding receive-hold hold-after
   held-written t h =
@@ -116,7 +116,7 @@ module _ (e : End) (store hold flit : List ℕ) where
       let c = sound-is e store (m .is-sound) .counts in
       rw h (flit-put-same hold flit (e .gathered .0) (omega (arith, m .hold-fits, c .gathered, c .owed)) (m .flit-fits))
 
-  pub delivered-written : (n : FlitCount) → verdict e store (length hold) (length flit) ≡ Admitted
+  pub delivered-written : (n : FlitCount) → receive-verdict e store (length hold) (length flit) ≡ Admitted
       → answer-to e store hold flit ≡ answer.Delivered n
       → flit-at (receive-hold e store hold flit) (e .gathered .0) ≡ bare-control flit
   unfolding receive-hold hold-after

@@ -6,24 +6,24 @@ use Prim.Native.Nat.{ℕ}
 use lib.Dec.{eqb}
 use lib.ListN.{length}
 use Rattle.crc.specs.Unit.{right}
-use Rattle.flits.specs.Fields.{fields-of}
-use Rattle.compose.specs.Flits.{bare-control}
-use Rattle.ends.specs.Ring.{put-at}
-use Rattle.ends.specs.Refusals.{store-is, sound, is-down}
-use Rattle.ends.specs.declared.state.End.{End}
-use Rattle.ends.specs.declared.state.Refusal.the-variants as refusal
-use Rattle.ends.specs.declared.state.Verdict.{Verdict}
-use Rattle.ends.specs.declared.state.Verdict.the-variants.{Refused, Admitted}
-use Rattle.arrivals.specs.Arrivals.{checked}
-use Rattle.answers.specs.Answers.{mode-answer}
-use Rattle.answers.specs.declared.Answer.{Answer}
-use Rattle.answers.specs.declared.Answer.the-variants as answer
+use Rattle.flit_read.specs.Fields.{fields-of}
+use Rattle.flit_write.specs.Flits.{bare-control}
+use Rattle.end_state.specs.Ring.{put-at}
+use Rattle.end_state.specs.Refusals.{store-is, sound, is-down}
+use Rattle.end_state.specs.declared.End.{End}
+use Rattle.end_state.specs.declared.Refusal.the-variants as refusal
+use Rattle.end_state.specs.declared.Verdict.{Verdict}
+use Rattle.end_state.specs.declared.Verdict.the-variants.{Refused, Admitted}
+use Rattle.receive_test.specs.Arrivals.{checked}
+use Rattle.receive_answer.specs.Answers.{mode-answer}
+use Rattle.receive_answer.specs.declared.Answer.{Answer}
+use Rattle.receive_answer.specs.declared.Answer.the-variants as answer
 use Rattle.receive.specs.declared.Received.{Received}
-use Rattle.effects.specs.Effects.{end-after}
+use Rattle.receive_state.specs.Effects.{end-after}
 
 -- the refusals of receive, in the table's order; 3 SHAPE: flit length not 64
-unfoldable pub verdict : End → List ℕ → ℕ → ℕ → Verdict
-verdict e store hold flit =
+unfoldable pub receive-verdict : End → List ℕ → ℕ → ℕ → Verdict
+receive-verdict e store hold flit =
     cond (not (store-is e (length store) && eqb hold 576)) (Refused refusal.Store)
     (cond (not (sound e store)) (Refused refusal.State)
     (cond (not (eqb flit 64)) (Refused refusal.Shape)
@@ -52,7 +52,7 @@ answer-by Admitted e hold flit = mode-answer (e .mode) e (fields-of flit) (right
 
 -- what receive answers, with the state after it; what hold then has
 unfoldable pub answer-to : End → List ℕ → List ℕ → List ℕ → Answer
-answer-to e store hold flit = answer-by (verdict e store (length hold) (length flit)) e hold flit
+answer-to e store hold flit = answer-by (receive-verdict e store (length hold) (length flit)) e hold flit
 
 unfoldable pub receive : End → List ℕ → List ℕ → List ℕ → Received
 receive e store hold flit =

@@ -1,14 +1,14 @@
 // Receive takes one arriving flit (01, "Receive").
-use answers::Answer;
-use ends::state::End;
-use ends::state::Refusal;
-use ends::state::Verdict;
+use end_state::End;
+use end_state::Refusal;
+use end_state::Verdict;
+use receive_answer::Answer;
 ghost use mathlib.Core.Path.{_≡_};
 ghost use Prim.Native.Nat.{_≤_};
 ghost use lib.ListN.{length};
 ghost use Rattle.crc.specs.Register.{table};
-ghost use Rattle.ends.specs.Ring.{put-at as put-at-of};
-ghost use Rattle.receive.specs.Receive.{verdict as verdict-of, receive as receive-of, receive-hold, hold-after};
+ghost use Rattle.end_state.specs.Ring.{put-at as put-at-of};
+ghost use Rattle.receive.specs.Receive.{receive-verdict, receive as receive-of, receive-hold, hold-after};
 
 // The answer, and the end after it.
 pub struct Received {
@@ -38,9 +38,9 @@ pub fn receive_with(t: &[u64; 256], e: End, store: &[u8], hold: &mut [u8], flit:
             end: e,
         },
         Verdict::Admitted => {
-            let fields = flits::read::fields(flit);
-            let answer = answers::answer_flit(t, e, &hold[..], flit, fields);
-            let end = effects::end_after(answer, e, store, fields);
+            let fields = flit_read::read::fields(flit);
+            let answer = receive_answer::answer_flit(t, e, &hold[..], flit, fields);
+            let end = receive_state::end_after(answer, e, store, fields);
             write_hold(answer, e, hold, flit);
             Received {
                 answer: answer,
@@ -52,13 +52,13 @@ pub fn receive_with(t: &[u64; 256], e: End, store: &[u8], hold: &mut [u8], flit:
 
 // The refusals of receive, in the table's order.
 fn verdict(e: End, store: &[u8], hold: usize, flit: usize) -> Verdict
-    ensures { λ r. ⌜ r ≡ verdict-of e (now (store .entry)) hold flit ⌝ }
+    ensures { λ r. ⌜ r ≡ receive-verdict e (now (store .entry)) hold flit ⌝ }
 {
-    let its_store = judge::is_its_store(e, store.len());
+    let its_store = end_judge::is_its_store(e, store.len());
     if !(its_store & (hold == End::HOLD)) {
         return Verdict::Refused(Refusal::Store);
     }
-    let judged = judge::judge(e, store);
+    let judged = end_judge::judge(e, store);
     if !judged.sound {
         return Verdict::Refused(Refusal::State);
     }
@@ -66,7 +66,7 @@ fn verdict(e: End, store: &[u8], hold: usize, flit: usize) -> Verdict
         return Verdict::Refused(Refusal::Shape);
     }
     let mode = e.mode;
-    if judge::is_down(mode) {
+    if end_state::is_down(mode) {
         return Verdict::Refused(Refusal::Down);
     }
     Verdict::Admitted
@@ -79,8 +79,12 @@ fn write_hold(answer: Answer, e: End, hold: &mut [u8], flit: &[u8])
 {
     let data = e.gathered.0;
     match answer {
-        Answer::Held => put_at(hold, data, flits::copy::taken(flit)),
-        Answer::Delivered(_) => put_at(hold, data, compose::bare_control(flits::copy::taken(flit))),
+        Answer::Held => put_at(hold, data, flit_read::copy::taken(flit)),
+        Answer::Delivered(_) => put_at(
+            hold,
+            data,
+            flit_write::bare_control(flit_read::copy::taken(flit)),
+        ),
         Answer::Refused(_) => {}
         Answer::Duplicate => {}
         Answer::Idle => {}
@@ -100,5 +104,5 @@ fn put_at(hold: &mut [u8], place: usize, flit: [u8; 64])
 {
     let from = place * 64;
     let to = from + 64;
-    flits::copy::put(&mut hold[from..to], flit);
+    flit_read::copy::put(&mut hold[from..to], flit);
 }

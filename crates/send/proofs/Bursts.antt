@@ -8,17 +8,17 @@ use native.Mathlib.Omega.{arith}
 use borrow.Author.Tests.{ltb-true, ltb-false}
 use lib.Dec.{ltb}
 use lib.ListN.{length, length-append}
-use Rattle.compose.specs.Flits.{idle-flit}
-use Rattle.ends.specs.Refusals.{cursor-at, store-is, sound, previous-run}
-use Rattle.ends.specs.declared.state.End.{End}
-use Rattle.units.specs.Units.{unit-sent}
-use Rattle.moves.specs.Moves.{carried, fallen}
-use Rattle.replays.specs.Replays.{replay-sent}
-use Rattle.burst.specs.Burst.{burst, burst-flits}
-use Rattle.units.proofs.Lengths.{length-unit}
-use Rattle.replays.proofs.Lengths.{length-idle, length-replays}
-use Rattle.burst.proofs.Cases.{burst-replays, burst-idle, burst-data, burst-control, flits-replays, flits-idle, flits-data, flits-control}
-use Rattle.burst.proofs.Ready.{Ready, ready}
+use Rattle.flit_write.specs.Flits.{idle-flit}
+use Rattle.end_state.specs.Refusals.{cursor-at, store-is, sound, previous-run}
+use Rattle.end_state.specs.declared.End.{End}
+use Rattle.send_unit.specs.Units.{unit-sent}
+use Rattle.send_state.specs.Moves.{carried, fallen}
+use Rattle.send_replay.specs.Replays.{replay-sent}
+use Rattle.send_burst.specs.Burst.{burst, burst-flits}
+use Rattle.send_unit.proofs.Lengths.{length-unit}
+use Rattle.send_replay.proofs.Lengths.{length-idle, length-replays}
+use Rattle.send_burst.proofs.Cases.{burst-replays, burst-idle, burst-data, burst-control, flits-replays, flits-idle, flits-data, flits-control}
+use Rattle.send_burst.proofs.Ready.{Ready, ready}
 
 -- the bytes of so many flits, at most ten
 pub record Sized (bs : List ℕ) (flits : ℕ) : Type 0 where

@@ -7,14 +7,14 @@ use native.Mathlib.Omega.{arith}
 use borrow.Author.Tests.{not-false, ltb-false, lt-ltb, le-ltb}
 use lib.Dec.{ltb}
 use lib.ListN.{length}
-use Rattle.ends.specs.Refusals.{store-is, sound, is-down}
-use Rattle.ends.specs.declared.state.End.{End}
-use Rattle.ends.specs.declared.state.Refusal.{Refusal}
-use Rattle.ends.specs.declared.state.Refusal.the-variants as refusal
-use Rattle.ends.specs.declared.state.Verdict.{Verdict}
-use Rattle.ends.specs.declared.state.Verdict.the-variants.{Refused, Admitted}
-use Rattle.ends.proofs.Tests.{cond-true, cond-false}
-use Rattle.send.specs.Send.{verdict}
+use Rattle.end_state.specs.Refusals.{store-is, sound, is-down}
+use Rattle.end_state.specs.declared.End.{End}
+use Rattle.end_state.specs.declared.Refusal.{Refusal}
+use Rattle.end_state.specs.declared.Refusal.the-variants as refusal
+use Rattle.end_state.specs.declared.Verdict.{Verdict}
+use Rattle.end_state.specs.declared.Verdict.the-variants.{Refused, Admitted}
+use Rattle.end_state.proofs.Tests.{cond-true, cond-false}
+use Rattle.send.specs.Send.{send-verdict}
 
 pub not-both : {A : Type 0} (v : Verdict) (r : Refusal) → v ≡ Refused r → v ≡ Admitted → A
 not-both v r h k = let z : _≡_ {A = ℕ} 0 1 = cc in absurd (omega arith)
@@ -30,32 +30,32 @@ abbrev from-state : End → List ℕ → ℕ → Verdict
 from-state e store n = cond (not (sound e store)) (Refused refusal.State) (from-out e n)
 
 module _ (e : End) (store : List ℕ) (n : ℕ) where
-  pub verdict-store : store-is e (length store) ≡ false → verdict e store n ≡ Refused refusal.Store
-  unfolding verdict
+  pub verdict-store : store-is e (length store) ≡ false → send-verdict e store n ≡ Refused refusal.Store
+  unfolding send-verdict
   verdict-store h = cond-true (not (store-is e (length store))) (Refused refusal.Store) (from-state e store n) (ap not h)
 
-  past-store : store-is e (length store) ≡ true → verdict e store n ≡ from-state e store n
-  unfolding verdict
+  past-store : store-is e (length store) ≡ true → send-verdict e store n ≡ from-state e store n
+  unfolding send-verdict
   past-store h = cond-false (not (store-is e (length store))) (Refused refusal.Store) (from-state e store n) (ap not h)
 
-  pub verdict-state : store-is e (length store) ≡ true → sound e store ≡ false → verdict e store n ≡ Refused refusal.State
+  pub verdict-state : store-is e (length store) ≡ true → sound e store ≡ false → send-verdict e store n ≡ Refused refusal.State
   verdict-state h k = past-store h ∙ cond-true (not (sound e store)) (Refused refusal.State) (from-out e n) (ap not k)
 
-  past-state : store-is e (length store) ≡ true → sound e store ≡ true → verdict e store n ≡ from-out e n
+  past-state : store-is e (length store) ≡ true → sound e store ≡ true → send-verdict e store n ≡ from-out e n
   past-state h k = past-store h ∙ cond-false (not (sound e store)) (Refused refusal.State) (from-out e n) (ap not k)
 
-  pub verdict-out : store-is e (length store) ≡ true → sound e store ≡ true → n < 640 → verdict e store n ≡ Refused refusal.Out
+  pub verdict-out : store-is e (length store) ≡ true → sound e store ≡ true → n < 640 → send-verdict e store n ≡ Refused refusal.Out
   verdict-out h k l = past-state h k ∙ cond-true (ltb n 640) (Refused refusal.Out) (from-down e) (lt-ltb n 640 l)
 
-  past-out : store-is e (length store) ≡ true → sound e store ≡ true → 640 ≤ n → verdict e store n ≡ from-down e
+  past-out : store-is e (length store) ≡ true → sound e store ≡ true → 640 ≤ n → send-verdict e store n ≡ from-down e
   past-out h k l = past-state h k ∙ cond-false (ltb n 640) (Refused refusal.Out) (from-down e) (le-ltb n 640 l)
 
   pub verdict-down : store-is e (length store) ≡ true → sound e store ≡ true → 640 ≤ n → is-down (e .mode) ≡ true
-      → verdict e store n ≡ Refused refusal.Down
+      → send-verdict e store n ≡ Refused refusal.Down
   verdict-down h k l d = past-out h k l ∙ cond-true (is-down (e .mode)) (Refused refusal.Down) Admitted d
 
   pub verdict-admitted : store-is e (length store) ≡ true → sound e store ≡ true → 640 ≤ n → is-down (e .mode) ≡ false
-      → verdict e store n ≡ Admitted
+      → send-verdict e store n ≡ Admitted
   verdict-admitted h k l d = past-out h k l ∙ cond-false (is-down (e .mode)) (Refused refusal.Down) Admitted d
 
 -- what an admitted call says
@@ -69,8 +69,8 @@ past : (b : Bool) (r : Refusal) (v : Verdict) → cond b (Refused r) v ≡ Admit
 past true r v h = not-both (Refused r) r refl h
 past false r v h = (refl, h)
 
-pub admitted : (e : End) (store : List ℕ) (n : ℕ) → verdict e store n ≡ Admitted → Admits e store n
-unfolding verdict
+pub admitted : (e : End) (store : List ℕ) (n : ℕ) → send-verdict e store n ≡ Admitted → Admits e store n
+unfolding send-verdict
 admitted e store n h =
     let a = past (not (store-is e (length store))) refusal.Store (from-state e store n) h in
     let b = past (not (sound e store)) refusal.State (from-out e n) (a .1) in

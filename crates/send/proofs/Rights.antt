@@ -8,15 +8,15 @@ use lib.ListN.{length, take, replicate, length-append}
 use Rattle.crc.specs.Unit.{right}
 use Rattle.crc.specs.Seal.{sealed}
 use Rattle.crc.proofs.Sealing.{sealed-right}
-use Rattle.flits.specs.Bytes.{bytes}
-use Rattle.compose.specs.Flits.{control-told, idle-flit, replay-flit}
-use Rattle.compose.specs.declared.Replay.{Replay}
-use Rattle.flits.proofs.Laws.{length-bytes}
-use Rattle.ends.specs.Refusals.{cursor-at}
-use Rattle.ends.specs.declared.state.End.{End}
-use Rattle.units.specs.Units.{stored-flits, unit-sent}
-use Rattle.replays.specs.Replays.{replay-sent}
-use Rattle.units.proofs.Lengths.{control-sent}
+use Rattle.flit_read.specs.Bytes.{bytes}
+use Rattle.flit_write.specs.Flits.{control-told, idle-flit, replay-flit}
+use Rattle.flit_write.specs.declared.Replay.{Replay}
+use Rattle.flit_read.proofs.Laws.{length-bytes}
+use Rattle.end_state.specs.Refusals.{cursor-at}
+use Rattle.end_state.specs.declared.End.{End}
+use Rattle.send_unit.specs.Units.{stored-flits, unit-sent}
+use Rattle.send_replay.specs.Replays.{replay-sent}
+use Rattle.send_unit.proofs.Lengths.{control-sent}
 
 -- what ends in n bytes has at least n
 ends-in : (s : List ℕ) (n x : ℕ) → n ≤ length (s ++ bytes n x)

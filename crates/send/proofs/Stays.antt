@@ -8,23 +8,23 @@ use native.Mathlib.Omega.{arith}
 use borrow.Author.Tests.{ltb-true, ltb-false}
 use lib.Dec.{ltb}
 use lib.ListN.{length}
-use Rattle.numbers.specs.Numbers.{width, after, difference}
-use Rattle.numbers.proofs.Laws.{further}
-use Rattle.ends.specs.Update.{with-untold, with-pending}
-use Rattle.ends.specs.Ring.{walked}
-use Rattle.ends.specs.Refusals.{cursor-at, sent-at, store-is, counts-sound, sound, previous-run}
-use Rattle.ends.specs.declared.state.End.{End}
-use Rattle.ends.specs.declared.state.Verdict.{Verdict}
-use Rattle.ends.specs.declared.state.Verdict.the-variants.{Refused, Admitted}
-use Rattle.ends.specs.declared.walk.Walk.{Walk}
-use Rattle.ends.proofs.Tests.{cond-either}
-use Rattle.ends.proofs.Facts.{stored-is, sound-is}
-use Rattle.ends.proofs.Holds.{sound-holds, counts-of, numbers-hold, units-hold, untold-sound, pending-sound}
-use Rattle.ends.proofs.Walks.{next-border}
-use Rattle.moves.specs.Moves.{fallen, past-unit, moved}
-use Rattle.send.specs.Send.{verdict, sent-by, send}
+use Rattle.flit_number.specs.Numbers.{width, after, difference}
+use Rattle.flit_number.proofs.Laws.{further}
+use Rattle.end_state.specs.Update.{with-untold, with-pending}
+use Rattle.end_state.specs.Ring.{walked}
+use Rattle.end_state.specs.Refusals.{cursor-at, sent-at, store-is, counts-sound, sound, previous-run}
+use Rattle.end_state.specs.declared.End.{End}
+use Rattle.end_state.specs.declared.Verdict.{Verdict}
+use Rattle.end_state.specs.declared.Verdict.the-variants.{Refused, Admitted}
+use Rattle.end_state.specs.declared.walk.Walk.{Walk}
+use Rattle.end_state.proofs.Tests.{cond-either}
+use Rattle.end_state.proofs.Facts.{stored-is, sound-is}
+use Rattle.end_state.proofs.Holds.{sound-holds, counts-of, numbers-hold, units-hold, untold-sound, pending-sound}
+use Rattle.end_state.proofs.Walks.{next-border}
+use Rattle.send_state.specs.Moves.{fallen, past-unit, moved}
+use Rattle.send.specs.Send.{send-verdict, sent-by, send}
 use Rattle.send.proofs.Cases.{admitted}
-use Rattle.burst.proofs.Ready.{unit-whole}
+use Rattle.send_burst.proofs.Ready.{unit-whole}
 
 -- ---- what holds in each case holds of the end after it
 
@@ -36,12 +36,12 @@ moved-either P e run f g h =
     cond-either P (e .pending) _ _ (λ t. f)
     (λ t. cond-either P (ltb (cursor-at e) (e .held .0)) _ _ (λ v. h (ltb-true (cursor-at e) (e .held .0) v)) (λ v. g))
 
-pub send-either : (P : End → Type 0) (e : End) (store : List ℕ) (n : ℕ) → P e → (verdict e store n ≡ Admitted → P (moved e (previous-run e store)))
+pub send-either : (P : End → Type 0) (e : End) (store : List ℕ) (n : ℕ) → P e → (send-verdict e store n ≡ Admitted → P (moved e (previous-run e store)))
     → P (send e store n .end)
 unfolding send
-send-either P e store n f g = go (verdict e store n) refl
+send-either P e store n f g = go (send-verdict e store n) refl
   where
-    go : (v : Verdict) → verdict e store n ≡ v → P (sent-by v e (previous-run e store) .end)
+    go : (v : Verdict) → send-verdict e store n ≡ v → P (sent-by v e (previous-run e store) .end)
     go (Refused r) h = f
     go Admitted h = g h
 

@@ -5,21 +5,21 @@ use mathlib.Core.List.{List, _++_}
 use Prim.Native.Nat.{ℕ}
 use lib.Dec.{ltb}
 use lib.ListN.{length, drop}
-use Rattle.ends.specs.State.{number-of}
-use Rattle.ends.specs.Refusals.{store-is, sound, previous-run, is-down}
-use Rattle.ends.specs.declared.state.End.{End}
-use Rattle.ends.specs.declared.state.Refusal.the-variants as refusal
-use Rattle.ends.specs.declared.state.Verdict.{Verdict}
-use Rattle.ends.specs.declared.state.Verdict.the-variants.{Refused, Admitted}
+use Rattle.end_state.specs.State.{refusal-number}
+use Rattle.end_state.specs.Refusals.{store-is, sound, previous-run, is-down}
+use Rattle.end_state.specs.declared.End.{End}
+use Rattle.end_state.specs.declared.Refusal.the-variants as refusal
+use Rattle.end_state.specs.declared.Verdict.{Verdict}
+use Rattle.end_state.specs.declared.Verdict.the-variants.{Refused, Admitted}
 use Rattle.send.specs.declared.Answer.{Answer}
 use Rattle.send.specs.declared.Answer.the-variants as answer
 use Rattle.send.specs.declared.Sent.{Sent}
-use Rattle.moves.specs.Moves.{moved}
-use Rattle.burst.specs.Burst.{burst, burst-flits}
+use Rattle.send_state.specs.Moves.{moved}
+use Rattle.send_burst.specs.Burst.{burst, burst-flits}
 
 -- the refusals of send, in the table's order; 4 OUT: output under 640
-unfoldable pub verdict : End → List ℕ → ℕ → Verdict
-verdict e store output =
+unfoldable pub send-verdict : End → List ℕ → ℕ → Verdict
+send-verdict e store output =
     cond (not (store-is e (length store))) (Refused refusal.Store)
     (cond (not (sound e store)) (Refused refusal.State)
     (cond (ltb output 640) (Refused refusal.Out)
@@ -36,16 +36,16 @@ output-by (Refused r) flits output = output
 output-by Admitted flits output = flits ++ drop (length flits) output
 
 unfoldable pub send : End → List ℕ → ℕ → Sent
-send e store output = sent-by (verdict e store output) e (previous-run e store)
+send e store output = sent-by (send-verdict e store output) e (previous-run e store)
 
 unfoldable pub send-output : End → List ℕ → List ℕ → ℕ → ℕ → List ℕ
 send-output e store output errors information =
-    output-by (verdict e store (length output)) (burst e store (previous-run e store) errors information) output
+    output-by (send-verdict e store (length output)) (burst e store (previous-run e store) errors information) output
 
--- the answers in this paper's numbers: of a refusal, and of the flits written
-abbrev pub refusal-number : Answer → ℕ
-refusal-number (answer.Refused r) = number-of r
-refusal-number (answer.Flits n) = 0
+-- what an answer tells, in 01's numbers: of a refusal, and of the flits written
+abbrev pub send-refusal : Answer → ℕ
+send-refusal (answer.Refused r) = refusal-number r
+send-refusal (answer.Flits n) = 0
 
 abbrev pub flits-written : Answer → ℕ
 flits-written (answer.Refused r) = 0

@@ -1,13 +1,13 @@
 // Send writes what goes on the wire next (01, "Send").
-use ends::state::End;
-use ends::state::Refusal;
-use ends::state::Verdict;
-use numbers::FlitCount;
+use end_state::End;
+use end_state::Refusal;
+use end_state::Verdict;
+use flit_number::FlitCount;
 ghost use mathlib.Core.Path.{_≡_};
 ghost use lib.ListN.{length};
 ghost use Rattle.crc.specs.Register.{table};
-ghost use Rattle.ends.specs.Refusals.{sound, previous-run};
-ghost use Rattle.send.specs.Send.{verdict as verdict-of, send as send-of, send-output};
+ghost use Rattle.end_state.specs.Refusals.{sound, previous-run};
+ghost use Rattle.send.specs.Send.{send-verdict, send as send-of, send-output, send-refusal, flits-written};
 
 // What send answers: a refusal, or the number of flits written.
 pub enum Answer {
@@ -53,8 +53,8 @@ pub fn send_with(
         },
         Verdict::Admitted => {
             let run = found.previous;
-            let flits = burst::write_burst(t, e, store, run, output, errors, information);
-            let end = moves::moved(e, run);
+            let flits = send_burst::write_burst(t, e, store, run, output, errors, information);
+            let end = send_state::moved(e, run);
             Sent {
                 answer: Answer::Flits(flits),
                 end: end,
@@ -71,13 +71,13 @@ struct Found {
 
 // The refusals of send, in the table's order.
 fn find_verdict(e: End, store: &[u8], output: usize) -> Found
-    ensures { λ r. ⌜ r .verdict ≡ verdict-of e (now (store .entry)) output ⌝ }
-    ensures { λ r. ⌜ (verdict-of e (now (store .entry)) output ≡ Verdict.Admitted → r .previous .0 ≡ previous-run e (now (store .entry))) ⌝ }
+    ensures { λ r. ⌜ r .verdict ≡ send-verdict e (now (store .entry)) output ⌝ }
+    ensures { λ r. ⌜ (send-verdict e (now (store .entry)) output ≡ Verdict.Admitted → r .previous .0 ≡ previous-run e (now (store .entry))) ⌝ }
 {
-    if !judge::is_its_store(e, store.len()) {
+    if !end_judge::is_its_store(e, store.len()) {
         return refused(Refusal::Store);
     }
-    let judged = judge::judge(e, store);
+    let judged = end_judge::judge(e, store);
     if !judged.sound {
         return refused(Refusal::State);
     }
@@ -85,7 +85,7 @@ fn find_verdict(e: End, store: &[u8], output: usize) -> Found
         return refused(Refusal::Out);
     }
     let mode = e.mode;
-    if judge::is_down(mode) {
+    if end_state::is_down(mode) {
         return refused(Refusal::Down);
     }
     let run = judged.previous;
@@ -101,5 +101,25 @@ fn refused(refusal: Refusal) -> Found
     Found {
         previous: FlitCount(0),
         verdict: Verdict::Refused(refusal),
+    }
+}
+
+// The number of a refusal, or 0.
+pub fn refusal_of(answer: Answer) -> u64
+    ensures { λ r. ⌜ r ≡ send-refusal answer ⌝ }
+{
+    match answer {
+        Answer::Refused(refusal) => end_state::refusal_number(refusal),
+        Answer::Flits(_) => 0,
+    }
+}
+
+// The flits written.
+pub fn flits_of(answer: Answer) -> usize
+    ensures { λ r. ⌜ r ≡ flits-written answer ⌝ }
+{
+    match answer {
+        Answer::Refused(_) => 0,
+        Answer::Flits(flits) => flits.0,
     }
 }

@@ -28,8 +28,8 @@ abbrev pub decimal : ℕ → List ℕ
 decimal n = digits 20 n
 
 -- a key and its number
-abbrev pub field : String → ℕ → List ℕ
-field key n = ascii key ++ decimal n
+abbrev pub key-value : String → ℕ → List ℕ
+key-value key n = ascii key ++ decimal n
 
 -- the byte `#`
 abbrev pub hash : ℕ

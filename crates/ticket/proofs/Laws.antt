@@ -7,7 +7,7 @@ use lib.ListN.{length}
 use Rattle.text.specs.Text.{ascii, decimal, filled}
 use Rattle.text.proofs.Laws.{filled-short}
 use Rattle.ticket.specs.declared.Ticket.{Ticket}
-use Rattle.ticket.specs.Ticket.{Call, counts, nothing, stopped, adds, after, in-order, text}
+use Rattle.ticket.specs.Ticket.{TicketCall, counts, nothing, stopped, adds, ticket-after, in-order, text}
 
 -- ---- counts
 
@@ -15,15 +15,15 @@ pub counts-are : (a b c d e a' b' c' d' e' : ℕ) → a ≡ a' → b ≡ b' → 
 counts-are a b c d e a' b' c' d' e' p q r s t = cc
 
 -- the counts after a call that adds u
-pub after-is : (t : Ticket) (c : Call) (u r : Ticket) → adds c ≡ u
+pub after-is : (t : Ticket) (c : TicketCall) (u r : Ticket) → adds c ≡ u
     → r .accepted ≡ stopped (t .accepted + u .accepted) → r .delivered ≡ stopped (t .delivered + u .delivered)
     → r .damaged ≡ stopped (t .damaged + u .damaged) → r .duplicate ≡ stopped (t .duplicate + u .duplicate)
-    → r .downs ≡ stopped (t .downs + u .downs) → r ≡ after t c
-unfolding after
+    → r .downs ≡ stopped (t .downs + u .downs) → r ≡ ticket-after t c
+unfolding ticket-after
 after-is t c u r e p q v w x = rw e (counts-are _ _ _ _ _ _ _ _ _ _ p q v w x)
 
-pub unchanged-is : (t : Ticket) (c : Call) → t .accepted < 2 ^ 32 → t .delivered < 2 ^ 32 → t .damaged < 2 ^ 32 → t .duplicate < 2 ^ 32
-    → t .downs < 2 ^ 32 → adds c ≡ nothing → t ≡ after t c
+pub unchanged-is : (t : Ticket) (c : TicketCall) → t .accepted < 2 ^ 32 → t .delivered < 2 ^ 32 → t .damaged < 2 ^ 32 → t .duplicate < 2 ^ 32
+    → t .downs < 2 ^ 32 → adds c ≡ nothing → t ≡ ticket-after t c
 unchanged-is t c p q v w x e = after-is t c nothing t e (omega arith) (omega arith) (omega arith) (omega arith) (omega arith)
 
 -- ---- its text

@@ -5,11 +5,11 @@ use Prim.Native.Nat.{ℕ, _+_, min}
 use Prim.Native.String.{String}
 use lib.Dec.{leb}
 use lib.ListN.{length}
-use Rattle.text.specs.Text.{ascii, field, written}
-use Rattle.ends.specs.declared.state.Verdict.{Verdict}
-use Rattle.ends.specs.declared.state.Verdict.the-variants as verdict
-use Rattle.answers.specs.declared.Answer.{Answer}
-use Rattle.answers.specs.declared.Answer.the-variants as answer
+use Rattle.text.specs.Text.{ascii, key-value, written}
+use Rattle.end_state.specs.declared.Verdict.{Verdict}
+use Rattle.end_state.specs.declared.Verdict.the-variants as verdict
+use Rattle.receive_answer.specs.declared.Answer.{Answer}
+use Rattle.receive_answer.specs.declared.Answer.the-variants as answer
 use Rattle.ticket.specs.declared.Ticket.{Ticket}
 use Rattle.ticket.specs.declared.Output.{Output}
 use Rattle.ticket.specs.declared.Output.the-variants.{Written, Short}
@@ -17,9 +17,9 @@ use Rattle.ticket.specs.declared.Output.the-variants.{Written, Short}
 -- ---- what a call adds
 
 -- a call that counts: accept of a unit of so many flits, with what it returned, and receive, with its answer
-pub data Call : Type 0 where
-  accepts : Verdict → ℕ → Call
-  receives : Answer → Call
+pub data TicketCall : Type 0 where
+  accepts : Verdict → ℕ → TicketCall
+  receives : Answer → TicketCall
 
 -- TL flits accepted, TL flits delivered, answers damaged, units duplicate, times gone down
 abbrev pub counts : ℕ → ℕ → ℕ → ℕ → ℕ → Ticket
@@ -29,7 +29,7 @@ abbrev pub nothing : Ticket
 nothing = counts 0 0 0 0 0
 
 -- a unit is its data flits and the control flit; a refused call adds nothing
-unfoldable pub adds : Call → Ticket
+unfoldable pub adds : TicketCall → Ticket
 adds (accepts verdict.Admitted flits) = counts flits 0 0 0 0
 adds (accepts (verdict.Refused r) flits) = nothing
 adds (receives (answer.Delivered n)) = counts 0 (n .0 + 1) 0 0 0
@@ -49,19 +49,19 @@ abbrev pub stopped : ℕ → ℕ
 stopped n = min n 4294967295
 
 -- the ticket after a call
-unfoldable pub after : Ticket → Call → Ticket
-after t c =
+unfoldable pub ticket-after : Ticket → TicketCall → Ticket
+ticket-after t c =
     counts (stopped (t .accepted + adds c .accepted)) (stopped (t .delivered + adds c .delivered)) (stopped (t .damaged + adds c .damaged))
     (stopped (t .duplicate + adds c .duplicate))
     (stopped (t .downs + adds c .downs))
 
 -- the ticket after a list of calls
-unfoldable pub after-all : Ticket → List Call → Ticket
-after-all t [] = t
-after-all t (c ∷ calls) = after-all (after t c) calls
+unfoldable pub ticket-after-all : Ticket → List TicketCall → Ticket
+ticket-after-all t [] = t
+ticket-after-all t (c ∷ calls) = ticket-after-all (ticket-after t c) calls
 
 -- one of the counts, over a list of calls
-unfoldable pub total : (Ticket → ℕ) → List Call → ℕ
+unfoldable pub total : (Ticket → ℕ) → List TicketCall → ℕ
 total count [] = 0
 total count (c ∷ calls) = count (adds c) + total count calls
 
@@ -72,18 +72,18 @@ abbrev pub in-order : Ticket → List ℕ
 in-order t = t .accepted ∷ t .delivered ∷ t .damaged ∷ t .duplicate ∷ t .downs ∷ []
 
 -- key=value, decimal without leading zeros, a line feed after each
-abbrev pub line : String → ℕ → List ℕ
-line key n = field key n ++ ascii "\n"
+abbrev pub key-line : String → ℕ → List ℕ
+key-line key n = key-value key n ++ ascii "\n"
 
 unfoldable pub text : Ticket → List ℕ
 text t =
-    line "accepted=" (t .accepted) ++ line "delivered=" (t .delivered) ++ line "damaged=" (t .damaged)
-    ++ line "duplicate=" (t .duplicate)
-    ++ line "downs=" (t .downs)
+    key-line "accepted=" (t .accepted) ++ key-line "delivered=" (t .delivered) ++ key-line "damaged=" (t .damaged)
+    ++ key-line "duplicate=" (t .duplicate)
+    ++ key-line "downs=" (t .downs)
 
 -- the text goes to the start of a buffer; nothing is written where that is shorter than the text
 unfoldable pub answer-for : Ticket → ℕ → Output
 answer-for t bytes = cond (leb (length (text t)) bytes) (Written (length (text t))) Short
 
-unfoldable pub output : Ticket → List ℕ → List ℕ
-output t out = cond (leb (length (text t)) (length out)) (written out 0 (text t)) out
+unfoldable pub ticket-output : Ticket → List ℕ → List ℕ
+ticket-output t out = cond (leb (length (text t)) (length out)) (written out 0 (text t)) out

@@ -1,12 +1,12 @@
 // The counts of a session (01, "The bench ticket"): functions that count by value, and the ticket as text.
-use answers::Answer;
-use ends::state::Verdict;
-use numbers::FlitCount;
+use end_state::Verdict;
+use flit_number::FlitCount;
+use receive_answer::Answer;
 ghost use mathlib.Core.Path.{_≡_};
 ghost use Prim.Native.Nat.{_+_, _≤_};
 ghost use lib.ListN.{length};
 ghost use Rattle.text.specs.Text.{filled, Puts};
-ghost use Rattle.ticket.specs.Ticket.{Call, nothing, stopped, after, in-order, text as text-of, answer-for, output};
+ghost use Rattle.ticket.specs.Ticket.{TicketCall, nothing, stopped, ticket-after, in-order, text as text-of, answer-for, ticket-output};
 
 // TL flits accepted, TL flits delivered, answers damaged, units duplicate, times gone down.
 pub struct Ticket {
@@ -38,7 +38,7 @@ pub fn fresh() -> Ticket
 
 // The ticket after accept of a unit of so many flits.
 pub fn after_accept(t: Ticket, verdict: Verdict, flits: FlitCount) -> Ticket
-    ensures { λ r. ⌜ r ≡ after t (Call.accepts verdict (flits .0)) ⌝ }
+    ensures { λ r. ⌜ r ≡ ticket-after t (TicketCall.accepts verdict (flits .0)) ⌝ }
 {
     let mut next = t;
     match verdict {
@@ -52,7 +52,7 @@ pub fn after_accept(t: Ticket, verdict: Verdict, flits: FlitCount) -> Ticket
 
 // The ticket after receive.
 pub fn after_receive(t: Ticket, answer: Answer) -> Ticket
-    ensures { λ r. ⌜ r ≡ after t (Call.receives answer) ⌝ }
+    ensures { λ r. ⌜ r ≡ ticket-after t (TicketCall.receives answer) ⌝ }
 {
     let mut next = t;
     match answer {
@@ -94,7 +94,7 @@ fn more(count: u32, n: usize) -> u32
 // Writes the ticket at the start of a buffer, or nothing where the buffer is shorter than its text.
 pub fn write_ticket(t: Ticket, out: &mut [u8]) -> Output
     ensures { λ r. ⌜ r ≡ answer-for t (length (now (out .entry))) ⌝ }
-    ensures { λ _. ⌜ now (out .exit) ≡ output t (now (out .entry)) ⌝ }
+    ensures { λ _. ⌜ now (out .exit) ≡ ticket-output t (now (out .entry)) ⌝ }
 {
     let mut whole = [0u8; 160];
     let bytes = put_ticket(&mut whole, 0, t);

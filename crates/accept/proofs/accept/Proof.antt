@@ -2,16 +2,16 @@
 use borrow.Author.Needs.{needs}
 use native.Mathlib.Omega.{arith}
 use mathlib.Core.Path.{_≡_, sym, _∙_}
-use Rattle.ends.specs.declared.state.Verdict.the-variants.{Admitted}
-use Rattle.admission.specs.Admission.{verdict}
-use Rattle.admission.proofs.Admitted.{Admission, admission}
+use Rattle.end_state.specs.declared.Verdict.the-variants.{Admitted}
+use Rattle.accept_verdict.specs.Admission.{accept-verdict}
+use Rattle.accept_verdict.proofs.Admitted.{Admission, admission}
 use Rattle.accept.specs.Accept.{accept, accept-store}
 use Rattle.accept.proofs.accept.Statement.{statement}
 use Rattle.accept.proofs.accept.Tie as tie
 
 -- the arm of an admitted call
 admitted : (c : tie.After-enum-told) → let a = c .before .before .before .before .before .before .args in
-    verdict (a .e) (a .store .now) (a .unit .now) ≡ Admitted
+    accept-verdict (a .e) (a .store .now) (a .unit .now) ≡ Admitted
 admitted c = sym (c .before .before .verdict .ensures) ∙ c .enum-told .given .1
 
 facts : (c : tie.After-enum-told) → let a = c .before .before .before .before .before .before .args in

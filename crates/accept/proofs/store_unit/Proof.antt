@@ -6,27 +6,27 @@ use Prim.Native.Nat.{ℕ, _+_, _-_, _≤_}
 use native.Mathlib.Omega.{arith}
 use native.Mathlib.Numerals.{add-one}
 use lib.ListN.{length}
-use Rattle.ends.specs.Ring.{flit-at, put-at, place}
-use Rattle.accept.specs.Accept.{written}
+use Rattle.end_state.specs.Ring.{flit-at, put-at, ring-place}
+use Rattle.accept.specs.Accept.{flits-stored}
 use Rattle.accept.proofs.store_unit.Statement.{statement}
 use Rattle.accept.proofs.store_unit.Tie as tie
 
 -- one flit more
 step : (places first held : ℕ) (store unit : List ℕ) (n : ℕ)
-    → written places first held store unit (n + 1)
-    ≡ put-at (written places first held store unit n) (place places first (held + n)) (flit-at unit n)
-unfolding written
+    → flits-stored places first held store unit (n + 1)
+    ≡ put-at (flits-stored places first held store unit n) (ring-place places first (held + n)) (flit-at unit n)
+unfolding flits-stored
 step places first held store unit n = rw add-one
 
 abbrev Inv-loop : tie.InvT-loop
 Inv-loop store₀ unit flits places first held n₀ store n =
-    (n ≤ flits) × (length store ≡ length store₀) × (store ≡ written places first held store₀ unit n)
+    (n ≤ flits) × (length store ≡ length store₀) × (store ≡ flits-stored places first held store₀ unit n)
 
 abbrev μ-loop : tie.MeasureT-loop
 μ-loop store₀ unit flits places first held n₀ store n = flits - n
 
 loop-holds : tie.Need-loop-holds Inv-loop μ-loop
-unfolding written
+unfolding flits-stored
 loop-holds c = (omega arith, refl, refl)
 
 add-place : tie.Need-add-place Inv-loop μ-loop
@@ -64,7 +64,7 @@ returns c =
     let l = c .before .loop in
     let a = c .before .before .before .before .args in
     let n : l .n ≡ a .flits = omega arith in
-    l .inv .2 ∙ ap (written (a .e .capacity .0) (a .e .first) (a .e .held .0) (a .store .now) (a .unit .now)) n
+    l .inv .2 ∙ ap (flits-stored (a .e .capacity .0) (a .e .first) (a .e .held .0) (a .store .now) (a .unit .now)) n
 
 pub store-unit-spec : {M : Type 1} → statement M
 store-unit-spec =

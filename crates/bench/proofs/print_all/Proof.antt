@@ -6,10 +6,10 @@ use native.Mathlib.Omega.{arith}
 use lib.Dec.{ltb}
 use lib.ListN.{length}
 use borrow.Author.Tests.{ltb-true}
-use Rattle.ends.proofs.Tests.{and-r}
-use Rattle.bench_lib.specs.declared.Bench.{Bench}
-use Rattle.bench_lib.specs.Bench.{begun}
-use Rattle.bench_lib.proofs.Laws.{last-short}
+use Rattle.end_state.proofs.Tests.{and-r}
+use Rattle.bench_line.specs.declared.Bench.{Bench}
+use Rattle.bench_line.specs.Bench.{bench-begun}
+use Rattle.bench_line.proofs.Laws.{last-short}
 use Rattle.bench.proofs.print_all.Statement.{statement}
 use Rattle.bench.proofs.print_all.Tie as tie
 
@@ -26,7 +26,7 @@ begin-requires : tie.Need-begin-requires Inv-loop μ-loop
 begin-requires c κs = tt
 
 loop-holds : tie.Need-loop-holds Inv-loop μ-loop
-unfolding begun
+unfolding bench-begun
 loop-holds c =
     let b = c .begin in
     let none = ap (λ (k : Bench). k .flits) (b .ensures) in

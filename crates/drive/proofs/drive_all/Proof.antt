@@ -7,9 +7,9 @@ use borrow.Author.Needs.{needs}
 use borrow.Author.Tests.{ltb-true}
 use lib.Dec.{ltb}
 use lib.ListN.{length, take, drop, length-take, length-drop}
-use Rattle.ends.proofs.Tests.{and-r}
-use Rattle.pair.specs.Pair.{Ready}
-use Rattle.drive_lib.proofs.Taken.{all-taken}
+use Rattle.end_state.proofs.Tests.{and-r}
+use Rattle.drive_pair.specs.Pair.{Ready}
+use Rattle.drive_session.proofs.Taken.{all-taken}
 use Rattle.drive.proofs.drive_all.Statement.{statement}
 use Rattle.drive.proofs.drive_all.Tie as tie
 

@@ -2,8 +2,8 @@ use mathlib.Core.Path.{refl, _∙_, ap}
 use Prim.Native.Nat.{_+_, _*_, _-_}
 use native.Mathlib.Omega.{arith}
 use borrow.Author.Needs.{needs}
-use Rattle.ends.specs.Ring.{put-at}
-use Rattle.ends.proofs.Parts.{put-is}
+use Rattle.end_state.specs.Ring.{put-at}
+use Rattle.end_state.proofs.Parts.{put-is}
 use Rattle.receive.proofs.put_at.Statement.{statement}
 use Rattle.receive.proofs.put_at.Tie as tie
 

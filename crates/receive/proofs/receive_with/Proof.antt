@@ -3,15 +3,15 @@ use native.Mathlib.Omega.{arith}
 use borrow.Author.Needs.{needs}
 use lib.ListN.{length}
 use Rattle.crc.specs.Unit.{right}
-use Rattle.flits.specs.Fields.{fields-of}
-use Rattle.flits.specs.declared.Fields.{Fields}
-use Rattle.ends.specs.declared.state.End.{End}
-use Rattle.ends.specs.declared.state.Verdict.{Verdict}
-use Rattle.ends.proofs.Facts.{sound-is}
-use Rattle.arrivals.specs.Arrivals.{checked}
-use Rattle.answers.specs.Answers.{mode-answer}
-use Rattle.answers.specs.declared.Answer.{Answer}
-use Rattle.effects.specs.Effects.{end-after}
+use Rattle.flit_read.specs.Fields.{fields-of}
+use Rattle.flit_read.specs.declared.Fields.{Fields}
+use Rattle.end_state.specs.declared.End.{End}
+use Rattle.end_state.specs.declared.Verdict.{Verdict}
+use Rattle.end_state.proofs.Facts.{sound-is}
+use Rattle.receive_test.specs.Arrivals.{checked}
+use Rattle.receive_answer.specs.Answers.{mode-answer}
+use Rattle.receive_answer.specs.declared.Answer.{Answer}
+use Rattle.receive_state.specs.Effects.{end-after}
 use Rattle.receive.specs.declared.Received.{Received}
 use Rattle.receive.specs.Receive.{hold-after, answer-by, answer-to, receive, receive-hold}
 use Rattle.receive.proofs.Admission.{admission}

@@ -5,8 +5,8 @@ use mathlib.Core.Path.{_≡_, sym, _∙_}
 use borrow.Author.Needs.{needs}
 use borrow.Author.Tests.{not-true, not-false}
 use lib.ListN.{length}
-use Rattle.ends.proofs.Tests.{cond-true}
-use Rattle.ends.specs.Refusals.{store-is, sound, previous-run}
+use Rattle.end_state.proofs.Tests.{cond-true}
+use Rattle.end_state.specs.Refusals.{store-is, sound, previous-run}
 use Rattle.send.proofs.Cases.{not-both, verdict-store, verdict-state, verdict-out, verdict-down, verdict-admitted}
 use Rattle.send.proofs.find_verdict.Statement.{statement}
 use Rattle.send.proofs.find_verdict.Tie as tie

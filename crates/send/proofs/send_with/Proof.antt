@@ -5,16 +5,16 @@ use mathlib.Core.Path.{_≡_, sym, ap, ap₂, _∙_}
 use Prim.Native.Nat.{ℕ}
 use borrow.Author.Needs.{needs}
 use lib.ListN.{length, drop}
-use Rattle.ends.specs.declared.state.End.{End}
-use Rattle.ends.specs.declared.state.Verdict.the-variants.{Refused, Admitted}
-use Rattle.moves.specs.Moves.{moved}
-use Rattle.burst.specs.Burst.{burst, burst-flits}
-use Rattle.send.specs.Send.{verdict}
+use Rattle.end_state.specs.declared.End.{End}
+use Rattle.end_state.specs.declared.Verdict.the-variants.{Refused, Admitted}
+use Rattle.send_state.specs.Moves.{moved}
+use Rattle.send_burst.specs.Burst.{burst, burst-flits}
+use Rattle.send.specs.Send.{send-verdict}
 use Rattle.send.specs.declared.Answer.the-variants as answer
 use Rattle.send.specs.declared.Sent.{Sent}
 use Rattle.send.proofs.Cases.{admitted}
 use Rattle.send.proofs.Outcomes.{send-refused, output-refused, send-admitted, output-admitted}
-use Rattle.burst.proofs.Ready.{ready}
+use Rattle.send_burst.proofs.Ready.{ready}
 use Rattle.send.proofs.send_with.Statement.{statement}
 use Rattle.send.proofs.send_with.Tie as tie
 
@@ -26,7 +26,7 @@ starts b o = b ++ drop (length b) o
 
 -- the call is admitted
 admits : (c : tie.After-enum-told) → let a = c .before .before .before .before .before .args in
-    verdict (a .e) (a .store .now) (length (a .output .now)) ≡ Admitted
+    send-verdict (a .e) (a .store .now) (length (a .output .now)) ≡ Admitted
 admits c = sym (c .before .before .find-verdict .ensures .0) ∙ c .enum-told .given .1
 
 find-verdict-requires : tie.Need-find-verdict-requires
@@ -58,7 +58,7 @@ returns : tie.Need-returns
 returns c =
     let a = c .before .before .before .before .before .before .args in
     let r = c .before .verdict .given .0 .0 in
-    let v : verdict (a .e) (a .store .now) (length (a .output .now)) ≡ Refused r =
+    let v : send-verdict (a .e) (a .store .now) (length (a .output .now)) ≡ Refused r =
     sym (c .before .before .before .find-verdict .ensures .0) ∙ c .before .verdict .given .1 in (
       sym (send-refused (a .e) (a .store .now) (length (a .output .now)) r v),
       sym (output-refused (a .e) (a .store .now) (a .output .now) (a .errors) (a .information) r v),

@@ -6,11 +6,11 @@ use native.Mathlib.Omega.{arith}
 use lib.ListN.{length, length-take}
 use borrow.Author.Tests.{le-leb, lt-leb}
 use Rattle.text.proofs.Laws.{puts-start}
-use Rattle.ends.proofs.Tests.{cond-true, cond-false}
+use Rattle.end_state.proofs.Tests.{cond-true, cond-false}
 use Rattle.text.specs.Text.{Puts, written}
 use Rattle.ticket.specs.declared.Ticket.{Ticket}
 use Rattle.ticket.specs.declared.Output.the-variants.{Written, Short}
-use Rattle.ticket.specs.Ticket.{text, answer-for, output}
+use Rattle.ticket.specs.Ticket.{text, answer-for, ticket-output}
 use Rattle.ticket.proofs.Laws.{text-short}
 use borrow.Author.Needs.{needs}
 use Rattle.ticket.proofs.write_ticket.Statement.{statement}
@@ -18,8 +18,8 @@ use Rattle.ticket.proofs.write_ticket.Tie as tie
 
 -- where the text fits, it is written, and its length answered; otherwise neither
 fits : (t : Ticket) (out made after : List ℕ) (bytes next : ℕ) → bytes ≡ length (text t) → made ≡ text t → bytes ≤ length out
-    → Puts out 0 made next after → (Written bytes ≡ answer-for t (length out)) × (after ≡ output t out)
-unfolding answer-for output
+    → Puts out 0 made next after → (Written bytes ≡ answer-for t (length out)) × (after ≡ ticket-output t out)
+unfolding answer-for ticket-output
 fits t out made after bytes next n m h p =
     let b = le-leb (length (text t)) (length out) (omega arith) in (
       ap Written n ∙ sym (cond-true _ _ _ b),
@@ -27,8 +27,8 @@ fits t out made after bytes next n m h p =
     )
 
 short : (t : Ticket) (out : List ℕ) (bytes : ℕ) → bytes ≡ length (text t) → length out < bytes
-    → (Short ≡ answer-for t (length out)) × (out ≡ output t out)
-unfolding answer-for output
+    → (Short ≡ answer-for t (length out)) × (out ≡ ticket-output t out)
+unfolding answer-for ticket-output
 short t out bytes n h =
     let b = lt-leb (length (text t)) (length out) (omega arith) in
     (sym (cond-false _ _ _ b), sym (cond-false _ _ _ b))

@@ -1,0 +1,71 @@
+-- Two ends and the line so far: what one byte of the input does. Assumes nothing.
+use mathlib.Core.Bool.{cond}
+use mathlib.Core.List.{List, [], _∷_, _++_}
+use mathlib.Core.Path.{_≡_}
+use Prim.Native.Nat.{ℕ, _≤_}
+use lib.Dec.{leb, ltb, eqb}
+use lib.ListN.{length, take}
+use Rattle.text.specs.Text.{Puts}
+use Rattle.drive_name.specs.declared.Which.{Which}
+use Rattle.drive_name.specs.declared.Which.the-variants as which
+use Rattle.drive_script.specs.Script.{line-of, bytes-of}
+use Rattle.drive_script.specs.declared.Command.{Command}
+use Rattle.drive_call.specs.Sides.{Clean, repeated}
+use Rattle.drive_line.specs.Lines.{Kept, bad-line, commanded, kept-in, Buffered}
+use Rattle.drive_pair.specs.declared.Pair.{Pair}
+
+-- ---- two ends and a line
+
+-- the two ends, and the bytes of the line so far
+pub record State : Type 0 where
+  pub a : Kept
+  pub b : Kept
+  pub line : List ℕ
+
+-- what is left, and the lines printed
+pub record PairStep : Type 0 where
+  pub state : State
+  pub lines : List ℕ
+
+-- a command for one of the two; the next line begins
+unfoldable pub answered : Kept → Kept → Which → Command → List ℕ → PairStep
+answered a b which.A c bytes = record { state = record { a = commanded a c bytes .kept; b = b; line = [] }; lines = commanded a c bytes .line }
+answered a b which.B c bytes = record { state = record { a = a; b = commanded b c bytes .kept; line = [] }; lines = commanded b c bytes .line }
+
+-- the line is whole; longer than 4,096 bytes, it is no command
+unfoldable pub ended : State → PairStep
+ended s =
+    cond (leb (length (s .line)) 4096)
+    (answered (s .a) (s .b) (line-of (s .line) .which) (line-of (s .line) .command) (bytes-of (s .line)))
+    (record { state = record { a = s .a; b = s .b; line = [] }; lines = bad-line })
+
+-- one byte more of the line; past 4,097 bytes none is remembered, since the line is no command already
+unfoldable pub longer : List ℕ → ℕ → List ℕ
+longer line c = cond (ltb (length line) 4097) (line ++ (c ∷ [])) line
+
+-- one byte of the input: a line feed ends a line
+unfoldable pub byte : State → ℕ → PairStep
+byte s c = cond (eqb c 10) (ended s) (record { state = record { a = s .a; b = s .b; line = longer (s .line) c }; lines = [] })
+
+-- ---- what stands in the buffers
+
+-- the state of two ends in their buffers, and of the line in its own
+abbrev pub state-in : Pair → List ℕ → List ℕ → List ℕ → List ℕ → List ℕ → State
+state-in d store-a hold-a store-b hold-b line =
+    record { a = kept-in (d .a) store-a hold-a; b = kept-in (d .b) store-b hold-b; line = take (d .length) line }
+
+-- both ends are in their buffers, and the line in its own; every byte past what is kept is 0, and every byte of the buffer for HEX
+pub record Ready (d : Pair) (stored-a held-a stored-b held-b input unit : List ℕ) : Type 0 where
+  pub a : Buffered (d .a) stored-a held-a
+  pub b : Buffered (d .b) stored-b held-b
+  pub line : d .length ≤ 4097
+  pub line-size : length input ≡ 4097
+  pub line-clean : Clean (d .length) input
+  pub bytes : unit ≡ repeated 2000 0
+
+-- what a session leaves stands in the buffers, and its lines are put
+pub record Goes (s : PairStep) (d : Pair) (store-a hold-a store-b hold-b line bytes out : List ℕ) (at next : ℕ) (after : List ℕ) : Type 0 where
+  pub state : state-in d store-a hold-a store-b hold-b line ≡ s .state
+  pub lines : Puts out at (s .lines) next after
+  pub ready : Ready d store-a hold-a store-b hold-b line bytes
+  pub inside : next ≤ length after

@@ -1,0 +1,55 @@
+-- `drive_session::finish` meets its contract. Assumes nothing.
+use Rattle.drive_pair.proofs.Bytes.{goes-as}
+use Rattle.drive_session.proofs.Steps.{goes-finished, finished-some}
+use borrow.Author.Needs.{needs}
+use Rattle.drive_session.proofs.finish.Statement.{statement}
+use Rattle.drive_session.proofs.finish.Tie as tie
+
+returns : tie.Need-returns
+returns c =
+    let a = c .before .before .before .before .before .before .before .before .before .args in
+    goes-finished (a .d) (a .store-a .now) (a .hold-a .now) (a .store-b .now) (a .hold-b .now) (a .line .now) (a .bytes .now) (a .out .now) (c .before .before .before .before .before .before .before .before .before .pre .1) (c .if1 .taken)
+
+end-line-requires : tie.Need-end-line-requires
+end-line-requires c κs = search needs
+
+same-length : tie.Need-same-length
+same-length c = search needs
+
+same-length-2 : tie.Need-same-length-2
+same-length-2 c = search needs
+
+same-length-3 : tie.Need-same-length-3
+same-length-3 c = search needs
+
+same-length-4 : tie.Need-same-length-4
+same-length-4 c = search needs
+
+same-length-5 : tie.Need-same-length-5
+same-length-5 c = search needs
+
+same-length-6 : tie.Need-same-length-6
+same-length-6 c = search needs
+
+same-length-7 : tie.Need-same-length-7
+same-length-7 c = search needs
+
+returns-2 : tie.Need-returns-2
+returns-2 c =
+    let a = c .before .before .before .before .before .before .before .before .before .before .before .before .before .before .before .before .before .before .before .before .before .before .before .before .before .before .before .before .before .before .before .args in
+    goes-as (finished-some (a .d) (a .store-a .now) (a .hold-a .now) (a .store-b .now) (a .hold-b .now) (a .line .now) (a .bytes .now) (c .before .before .before .before .before .before .before .before .before .before .before .before .before .before .before .before .before .before .before .before .before .before .before .before .before .before .before .before .before .before .before .pre .1) (c .before .before .before .before .before .before .before .before .before .before .before .before .before .before .before .before .before .before .before .before .before .before .if1 .left)) (c .before .before .before .before .before .before .before .before .before .before .before .before .before .before .end-line .ensures)
+
+pub finish-spec : {M : Type 1} → statement M
+finish-spec =
+    tie.close
+    (tie.spec
+    returns
+    end-line-requires
+    same-length
+    same-length-2
+    same-length-3
+    same-length-4
+    same-length-5
+    same-length-6
+    same-length-7
+    returns-2)

@@ -1,0 +1,12 @@
+-- `drive_side::lend` meets its contract. Assumes nothing.
+use mathlib.Core.Path.{refl}
+use Rattle.drive_side.specs.Settings.{side-lent}
+use Rattle.drive_side.proofs.lend.Statement.{statement}
+use Rattle.drive_side.proofs.lend.Tie as tie
+
+returns : tie.Need-returns
+unfolding side-lent
+returns c = refl
+
+pub lend-spec : {M : Type 1} → statement M
+lend-spec = tie.close (tie.spec returns)
