@@ -1,5 +1,5 @@
 -- A sound state stays sound under accept. The walk over the flits held before is as it was, and the new unit carries it on to the
--- next border, with the run length of the unit's control flit. Assumes nothing.
+-- next border, with the run length of the unit's control flit.
 use mathlib.Core.Bool.{Bool, true, _&&_, cond}
 use mathlib.Core.List.{List}
 use mathlib.Core.Path.{_≡_, refl, sym, ap, ap₂, _∙_}

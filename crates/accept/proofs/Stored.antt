@@ -1,5 +1,5 @@
 -- What an admitted call of accept does to the store: the unit's flits stand in order at the places after the held flits, every
--- other place is as it was, and the store is as long as it was. Assumes nothing.
+-- other place is as it was, and the store is as long as it was.
 use mathlib.Core.Bool.{Bool, true, false}
 use mathlib.Core.List.{List}
 use mathlib.Core.Path.{_≡_, refl, sym, ap, ap₂, _∙_, subst}

@@ -1,4 +1,4 @@
--- A refused call of accept answers the refusal and changes neither the state nor the store. Assumes nothing.
+-- A refused call of accept answers the refusal and changes neither the state nor the store.
 use mathlib.Core.List.{List}
 use mathlib.Core.Path.{_≡_}
 use Prim.Native.Nat.{ℕ}

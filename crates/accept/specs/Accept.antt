@@ -1,4 +1,4 @@
--- Accept takes one unit from the transaction layer (01, "What an end keeps"); what it refuses is `verdict`. Assumes nothing.
+-- Accept takes one unit from the transaction layer (01, "What an end keeps"); what it refuses is `verdict`.
 use mathlib.Core.List.{List}
 use Prim.Native.Nat.{ℕ, zero, suc, _+_}
 use Rattle.end_state.specs.Update.{with-held}

@@ -1,4 +1,4 @@
--- What an admitted call of accept says of the state, the store and the unit: no refusal of the table holds. Assumes nothing.
+-- What an admitted call of accept says of the state, the store and the unit: no refusal of the table holds.
 use mathlib.Core.Bool.{true, false, not}
 use mathlib.Core.List.{List}
 use mathlib.Core.Path.{_≡_}

@@ -1,4 +1,4 @@
--- What accept refuses (01, "Refusals by number"). Assumes nothing.
+-- What accept refuses (01, "Refusals by number").
 use mathlib.Core.Bool.{Bool, not, _&&_, cond}
 use mathlib.Core.List.{List}
 use Prim.Native.Nat.{ℕ, _+_, _-_, _/_, _%_}

@@ -1,5 +1,5 @@
 -- How the input is cut does not matter: the lines of an input that begins with whole flits are the lines of these, and then the lines of
--- the rest, received by the end that the first flits leave. So the program may read as it likes. Assumes nothing.
+-- the rest, received by the end that the first flits leave. So the program may read as it likes.
 use mathlib.Core.List.{List, _++_, append-assoc, append-nil}
 use mathlib.Core.Path.{_≡_, refl, ap, ap₂, sym, _∙_}
 use Prim.Native.Nat.{ℕ, zero, suc, _+_, _*_, _/_, _≤_}

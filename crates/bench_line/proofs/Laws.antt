@@ -1,4 +1,4 @@
--- The lines from their forms, how long they are, and how a session goes on. Assumes nothing.
+-- The lines from their forms, how long they are, and how a session goes on.
 use mathlib.Core.Bool.{Bool, true, false}
 use mathlib.Core.List.{List, [], _∷_, _++_, append-nil, append-assoc}
 use mathlib.Core.Path.{_≡_, refl, ap, sym, _∙_}

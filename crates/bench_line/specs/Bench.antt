@@ -1,5 +1,4 @@
 -- The lines that bench prints (01, "The bench ticket"): flits go into a fresh receiver one after the other, and each gives a line.
--- Assumes nothing.
 use mathlib.Core.Bool.{Bool, cond}
 use mathlib.Core.List.{List, [], _++_}
 use Prim.Native.Nat.{ℕ, zero, suc, _+_, _/_}

@@ -1,6 +1,5 @@
 -- A list of bytes, byte by byte: the register that has taken them holds the remainder of their bits, and a remainder can be continued.
 -- Also what else is known of the bits of bytes: how many they are, and that bytes are known by them.
--- Assumes nothing.
 use mathlib.Core.Path.{_≡_, refl, sym, ap, ap₂, _∙_}
 use mathlib.Core.Bool.{Bool}
 use mathlib.Core.List.{List, [], _∷_, _++_, append-assoc}

@@ -1,7 +1,6 @@
 -- What damage the check finds, over byte lists and any window of their bits, across bytes and flits. Two right units of one length differ
 -- by a multiple of the polynomial. The polynomial has an even number of terms, so no multiple has an odd number of them. And a register
 -- that is not zero never becomes zero, since the polynomial's last coefficient is 1: so no multiple lies within 36 neighbouring bits.
--- Assumes nothing.
 use mathlib.Core.Path.{_≡_, refl, sym, ap, ap₂, _∙_, subst}
 use mathlib.Core.Bool.{Bool, true, false, not, _&&_, true≢false}
 use mathlib.Core.List.{List, [], _∷_, _++_}

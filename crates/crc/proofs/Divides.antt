@@ -1,7 +1,6 @@
 -- Long division tells whether a polynomial divides: for every polynomial p whose first coefficient is 1, p divides u exactly when the
 -- remainder is nothing. One way, a place takes the first row of a product away, so all places take all of it. The other way, the bits that
 -- go out of the register are the quotient. Last, the check's polynomial: `right` decides `Right`, for every list.
--- Assumes nothing.
 use mathlib.Core.Path.{_≡_, refl, sym, ap, ap₂, _∙_, subst}
 use mathlib.Core.Bool.{Bool, true, false, _&&_, true≢false}
 use mathlib.Core.Logic.{_↔_}

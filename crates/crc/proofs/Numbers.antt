@@ -1,6 +1,5 @@
 -- Polynomials as lists and as numbers: a list of known length is known by its number, a sum is an exclusive or, and long division of a
 -- list is so many places of its number.
--- Assumes nothing.
 use mathlib.Core.Path.{_≡_, refl, sym, ap, ap₂, _∙_, subst}
 use mathlib.Core.Bool.{Bool, true, false, false≢true}
 use mathlib.Core.List.{List, [], _∷_, _++_}

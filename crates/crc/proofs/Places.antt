@@ -1,7 +1,6 @@
 -- Division in a register, for any polynomial and any number n of places taken at a time. A place is linear, and works on numbers of any
 -- size, so a whole unit is one number. n places of it are its bits above the lowest n, and what n places make of those n alone: that is
 -- what a table of 2 ^ n entries holds.
--- Assumes nothing.
 use mathlib.Core.Path.{_≡_, refl, sym, ap, ap₂, _∙_}
 use mathlib.Core.Bool.{Bool, true, false}
 use Prim.Native.Nat.{ℕ, zero, suc, _+_, _*_, _/_, _%_, _^_, _<_}

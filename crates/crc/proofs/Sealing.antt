@@ -1,6 +1,5 @@
 -- Sealing. Of a unit with c in its check field the division leaves c plus what it leaves of the same unit with zeros there: so the unit is
 -- right with that remainder in the field, and with nothing else. A sealed unit keeps its length and every bit before the field.
--- Assumes nothing.
 use mathlib.Core.Path.{_≡_, refl, sym, ap, ap₂, _∙_, subst}
 use mathlib.Core.Bool.{Bool, true, false, cond, _&&_}
 use mathlib.Core.List.{List, [], _∷_, _++_, append-assoc}

@@ -1,6 +1,5 @@
 -- Exclusive or on numbers: what lib.Bits leaves out. The numbers are a group in which each is its own inverse, a shift goes through, and
 -- the lowest bit of a sum is the sum of the lowest bits.
--- Assumes nothing.
 use mathlib.Core.Path.{_≡_, refl, sym, ap, ap₂, _∙_}
 use mathlib.Core.Bool.{Bool, true, false}
 use Prim.Native.Nat.{ℕ, zero, suc, _+_, _*_, _/_, _%_, _^_, _<_}

@@ -1,6 +1,5 @@
 -- Polynomials over two elements. A polynomial is the list of its coefficients, the highest power first; zeros in front of a list
 -- change no polynomial. This is all of the algebra that the check speaks of: sum, product, divides, and the remainder by long division.
--- Assumes nothing.
 use mathlib.Core.Path.{_≡_}
 use mathlib.Core.Bool.{Bool, true, false, not, _&&_}
 use mathlib.Core.List.{List, [], _∷_, _++_, map}

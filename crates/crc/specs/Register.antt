@@ -1,6 +1,5 @@
 -- The division as the code does it: the remainder is a number below 2 ^ 36, its first coefficient, that of x ^ 35, in bit 0. Nothing here
 -- decides what is right: `continued-remainder` of proofs/Bytes.antt says that these are the numbers of Poly.antt's remainders.
--- Assumes nothing.
 use mathlib.Core.Bool.{Bool, true, false}
 use mathlib.Core.List.{List, [], _∷_}
 use Prim.Native.Nat.{ℕ, zero, suc, _+_, _*_, _/_, _%_, _^_}

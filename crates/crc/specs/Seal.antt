@@ -1,6 +1,5 @@
 -- Sealing: the check field, a unit's last 36 bits, written so that the unit is right. The coefficient of x ^ c stands at DL content bit
 -- 63 - c (document 01, "Check"), so bit i of a remainder, which is the coefficient of x ^ (35 - i), stands at bit 28 + i.
--- Assumes nothing.
 use mathlib.Core.Bool.{cond}
 use mathlib.Core.List.{List, [], _∷_, _++_}
 use Prim.Native.Nat.{ℕ, _+_, _-_, _*_, _/_, _%_, _^_}

@@ -1,7 +1,6 @@
 -- What is right (document 01, "Check"): a unit's bits in order are coefficients, the first bit the highest power, and the unit is right
 -- exactly when the polynomial divides them. Then the words for damage: the bits in which two units differ, how many they are, and that
 -- they lie within so many neighbouring bits.
--- Assumes nothing.
 use mathlib.Core.Path.{_≡_}
 use mathlib.Core.Bool.{Bool, true, false, not, _&&_, _||_}
 use mathlib.Core.List.{List, [], _∷_, _++_}

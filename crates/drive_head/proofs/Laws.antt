@@ -1,4 +1,4 @@
--- What comes before the state, from what the functions say: its parts joined, bytes that are 165, and how long it is. Assumes nothing.
+-- What comes before the state, from what the functions say: its parts joined, bytes that are 165, and how long it is.
 use mathlib.Core.Bool.{true, false, _&&_}
 use mathlib.Core.List.{List, [], _∷_, _++_}
 use mathlib.Core.Path.{_≡_, refl, ap, sym, _∙_}

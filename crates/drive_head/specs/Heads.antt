@@ -1,4 +1,4 @@
--- What a line says before the state. Assumes nothing.
+-- What a line says before the state.
 use mathlib.Core.Bool.{Bool, true, _&&_, cond}
 use mathlib.Core.List.{List, [], _∷_, _++_}
 use Prim.Native.Nat.{ℕ, _*_}

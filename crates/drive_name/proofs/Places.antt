@@ -1,4 +1,4 @@
--- Laws of the place of a token in a row of words, and the name that stands at that place. Assumes nothing.
+-- Laws of the place of a token in a row of words, and the name that stands at that place.
 use mathlib.Core.Bool.{Bool, true, false, cond}
 use mathlib.Core.List.{List, [], _∷_}
 use mathlib.Core.Path.{_≡_, refl, ap, sym, subst, _∙_}

@@ -1,4 +1,4 @@
--- The words of a script: the ends, the fields of the state with their largest values, and the counts of the ticket. Assumes nothing.
+-- The words of a script: the ends, the fields of the state with their largest values, and the counts of the ticket.
 use mathlib.Core.Bool.{cond}
 use mathlib.Core.List.{List, [], _∷_}
 use Prim.Native.Nat.{ℕ, suc}

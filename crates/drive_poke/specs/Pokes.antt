@@ -1,4 +1,4 @@
--- What the commands poke and count set. Assumes nothing.
+-- What the commands poke and count set.
 use mathlib.Core.Bool.{cond}
 use Prim.Native.Nat.{ℕ}
 use lib.Dec.{eqb}

@@ -1,4 +1,4 @@
--- For callers: the values of a command are in range, and the bytes of a line are as many as its command says. Assumes nothing.
+-- For callers: the values of a command are in range, and the bytes of a line are as many as its command says.
 use mathlib.Core.Bool.{Bool, true, false, _&&_, cond}
 use mathlib.Core.List.{List, [], _∷_}
 use mathlib.Core.Path.{_≡_, refl, ap, sym, subst, _∙_}

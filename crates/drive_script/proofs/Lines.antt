@@ -1,4 +1,4 @@
--- What a command carries, and the line that it makes. Assumes nothing.
+-- What a command carries, and the line that it makes.
 use mathlib.Core.Bool.{Bool, true, false, _&&_, _||_, cond}
 use mathlib.Core.List.{List, [], _∷_}
 use mathlib.Core.Path.{_≡_, refl, ap, ap₂, sym, _∙_}

@@ -1,4 +1,4 @@
--- The script format: what one line, without its line feed, asks for. How long a line may be is not asked here. Assumes nothing.
+-- The script format: what one line, without its line feed, asks for. How long a line may be is not asked here.
 use mathlib.Core.Bool.{_&&_, cond}
 use mathlib.Core.List.{List, [], _∷_}
 use Prim.Native.Nat.{ℕ, _≤_}

@@ -1,4 +1,4 @@
--- What a command sets in an end with its ticket and the lengths that are lent. Assumes nothing.
+-- What a command sets in an end with its ticket and the lengths that are lent.
 use Prim.Native.Nat.{ℕ}
 use Rattle.end_state.specs.declared.End.{End}
 use Rattle.ticket.specs.declared.Ticket.{Ticket}

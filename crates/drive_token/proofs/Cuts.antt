@@ -1,4 +1,4 @@
--- Laws of tokens: where the first one ends, and that the test of a word decides it. Assumes nothing.
+-- Laws of tokens: where the first one ends, and that the test of a word decides it.
 use mathlib.Core.Bool.{Bool, true, false, not, _&&_, cond}
 use mathlib.Core.List.{List, [], _∷_, _++_, append-nil, append-assoc}
 use mathlib.Core.Path.{_≡_, refl, ap, ap₂, sym, _∙_}

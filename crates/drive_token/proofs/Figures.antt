@@ -1,4 +1,4 @@
--- Laws of numbers and of bytes in hexadecimal, digit by digit. Assumes nothing.
+-- Laws of numbers and of bytes in hexadecimal, digit by digit.
 use mathlib.Core.Bool.{Bool, true, false, _&&_, cond}
 use mathlib.Core.List.{List, [], _∷_, _++_}
 use mathlib.Core.Path.{_≡_, refl, ap, ap₂, sym, _∙_}

@@ -1,4 +1,4 @@
--- Tokens of a line: where they are cut, and the numbers and bytes that they say. Assumes nothing.
+-- Tokens of a line: where they are cut, and the numbers and bytes that they say.
 use mathlib.Core.Bool.{Bool, true, false, _&&_, _||_, cond}
 use mathlib.Core.List.{List, [], _∷_, _++_}
 use Prim.Native.Nat.{ℕ, _+_, _-_, _*_, _%_, min}

@@ -1,4 +1,4 @@
--- What the tests of specs/Refusals.antt say of the numbers, as records that `omega` reads. Assumes nothing.
+-- What the tests of specs/Refusals.antt say of the numbers, as records that `omega` reads.
 use mathlib.Core.Bool.{true, _&&_, cond}
 use mathlib.Core.List.{List}
 use mathlib.Core.Path.{_≡_}

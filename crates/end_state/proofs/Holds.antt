@@ -1,5 +1,4 @@
 -- The tests of specs/Refusals.antt hold where the numbers are so, the other way round from Facts; and what does not touch soundness.
--- Assumes nothing.
 use mathlib.Core.Bool.{Bool, true, not, _&&_, _||_, cond}
 use mathlib.Core.List.{List}
 use mathlib.Core.Path.{_≡_}

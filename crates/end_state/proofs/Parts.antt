@@ -1,5 +1,5 @@
 -- A flit as the part of a slice that starts at its place, as the borrow checker says it: read, and written back; and buffers that are
--- written part after part. Of a part that comes back the borrow checker says `putMid`: the part's bytes in their place. Assumes nothing.
+-- written part after part. Of a part that comes back the borrow checker says `putMid`: the part's bytes in their place.
 use mathlib.Core.List.{List, _++_, append-assoc}
 use mathlib.Core.Path.{_≡_, sym, ap, ap₂, _∙_}
 use Prim.Native.Nat.{ℕ, _+_, _*_}

@@ -1,5 +1,5 @@
 -- The places of the ring. Two flits of one round lie at two places; a flit written to a place is what stands there, and no other
--- place changes; a walk sees only the flits that it passes. Assumes nothing.
+-- place changes; a walk sees only the flits that it passes.
 use mathlib.Core.Bool.{Bool, true, false}
 use mathlib.Core.List.{List, _++_, append-assoc}
 use mathlib.Core.Path.{_≡_, refl, sym, ap, ap₂, _∙_, subst}

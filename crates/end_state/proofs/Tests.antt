@@ -1,4 +1,4 @@
--- What a choice and a conjunction of tests say. Assumes nothing.
+-- What a choice and a conjunction of tests say.
 use mathlib.Core.Bool.{Bool, true, false, _&&_, cond}
 use mathlib.Core.Path.{_≡_, refl}
 

@@ -1,4 +1,4 @@
--- What an admitted call says of the refusals that it was tested for. Assumes nothing.
+-- What an admitted call says of the refusals that it was tested for.
 use mathlib.Core.Bool.{Bool, true, false, cond}
 use mathlib.Core.Path.{_≡_, refl}
 use Prim.Native.Nat.{ℕ}

@@ -1,5 +1,5 @@
 -- The walk over the held flits. On a border the data flits to come are those of the unit that begins there; past j of them the walk
--- is inside that unit, and past its control flit on the next border. So between two borders lie whole units. Assumes nothing.
+-- is inside that unit, and past its control flit on the next border. So between two borders lie whole units.
 use mathlib.Core.Bool.{Bool, true, false, _&&_, cond}
 use mathlib.Core.List.{List}
 use mathlib.Core.Path.{_≡_, refl, sym, ap, ap₂, _∙_, subst}

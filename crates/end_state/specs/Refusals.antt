@@ -1,5 +1,5 @@
 -- What every operation refuses: rows 1, 2 and 5 of the table (01, "Refusals by number"). The other rows stand with the operations that give
--- them, and what row 7 asks of a flit in crate flits. Assumes nothing.
+-- them, and what row 7 asks of a flit in crate flit_read.
 use mathlib.Core.Bool.{Bool, true, false, not, _&&_, _||_, cond}
 use mathlib.Core.List.{List}
 use Prim.Native.Nat.{ℕ, _/_}

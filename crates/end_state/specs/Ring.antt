@@ -1,5 +1,4 @@
 -- The store as a ring of places, and how its control flits cut the held flits into units (01, "What an end keeps").
--- Assumes nothing.
 use mathlib.Core.Bool.{true, false, _&&_, cond}
 use mathlib.Core.List.{List, _++_}
 use Prim.Native.Nat.{ℕ, zero, suc, _+_, _-_, _*_}

@@ -1,4 +1,4 @@
--- The fresh end and start, tests of the mode, and the numbers of the refusals (01, "What an end keeps"; "Refusals by number"). Assumes nothing.
+-- The fresh end and start, tests of the mode, and the numbers of the refusals (01, "What an end keeps"; "Refusals by number").
 use mathlib.Core.Bool.{Bool, true, false, _&&_, cond}
 use Prim.Native.Nat.{ℕ, _/_, _%_}
 use lib.Dec.{leb, eqb}

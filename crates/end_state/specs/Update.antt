@@ -1,5 +1,5 @@
 -- The state with one field anew: "held becomes n" is `with-held n e`. Numbers and counts go in as plain numbers, and are made of
--- their type here. Assumes nothing.
+-- their type here.
 use mathlib.Core.Bool.{Bool}
 use mathlib.Core.List.{List}
 use Prim.Native.Nat.{ℕ}

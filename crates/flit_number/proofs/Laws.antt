@@ -1,5 +1,5 @@
 -- The laws of numbers that begin again after 2 ^ k - 1, stated once over the width k and over what the acknowledge number means.
--- Each follows from one fact: where r + b comes round to a, r is the difference of a and b. Assumes nothing.
+-- Each follows from one fact: where r + b comes round to a, r is the difference of a and b.
 use mathlib.Core.Path.{_≡_, refl, sym, ap, _∙_}
 use Prim.Native.Nat.{ℕ, _+_, _-_, _%_, _^_, _<_, _≤_}
 use native.Mathlib.Nat.{mod-eq-of-lt, mod-lt, mod-add-mod, add-mod-right, add-assoc, add-comm}

@@ -1,6 +1,6 @@
 -- Numbers of TL flits (01, "Numbers"). They count 0, 1, 2, .. and begin again after 2 ^ k - 1, where k is the width of the
 -- edition's number fields: 16 for DL 3.0/4.0, 12 for DL 3.1. What an acknowledge number names differs between the two as well,
--- so both are parameters here. Assumes nothing.
+-- so both are parameters here.
 use Prim.Native.Nat.{ℕ, _+_, _-_, _%_, _^_}
 
 -- the width of this edition's sequence numbers: they begin again after 65535

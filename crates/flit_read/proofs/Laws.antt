@@ -1,7 +1,7 @@
 -- Bytes and the numbers that they make. A list of bytes is the number's digits to the base 256, lowest first, so that taking and dropping
 -- bytes is the rest and the quotient by a power of 256, and `bytes` and `number` are inverse to each other. Then what the reading of
 -- two, four and eight bytes at a place gives, that a replay flit's bits 159:96 are its DL content, and that no
--- field holds more than its bits. Assumes nothing.
+-- field holds more than its bits.
 use mathlib.Core.Path.{_≡_, refl, sym, ap, ap₂, _∙_}
 use mathlib.Core.List.{List, [], _∷_, _++_}
 use Prim.Native.Nat.{ℕ, zero, suc, _+_, _-_, _*_, _/_, _%_, _^_, _<_, _≤_}

@@ -1,5 +1,5 @@
 -- Bytes and the numbers that they make (01, "Fields"): byte 0 comes first, and bit 0 of a byte comes first, so that bit b of the
--- number is bit b % 8 of byte b / 8. Assumes nothing.
+-- number is bit b % 8 of byte b / 8.
 use mathlib.Core.Bool.{Bool, true, false}
 use mathlib.Core.List.{List, [], _∷_}
 use Prim.Native.Nat.{ℕ, zero, suc, _+_, _-_, _*_, _/_, _%_, _^_}

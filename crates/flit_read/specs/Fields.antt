@@ -1,5 +1,5 @@
 -- The fields of control, idle and replay flits, each position written once, in the order of 01, "Fields". The check is the crate
--- crc's. Assumes nothing.
+-- crc's.
 use mathlib.Core.Bool.{Bool, _&&_}
 use mathlib.Core.List.{List}
 use Prim.Native.Nat.{ℕ}

@@ -1,4 +1,4 @@
-// The fields of control, idle and replay flits, and their places: read here, written in the crate compose (01, "Fields"). Nothing above
+// The fields of control, idle and replay flits, and their places: read here, written in the crate flit_write (01, "Fields"). Nothing above
 // these two speaks of a byte or a bit of a flit.
 pub mod copy;
 pub mod place;

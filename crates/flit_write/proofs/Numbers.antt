@@ -1,5 +1,5 @@
 -- A replay flit's bytes 44 to 63 are four numbers, one after the other: the link information, the acknowledge number, the starting number
--- and the DL content. Each fits its bytes, so that the number of all twenty is the sum of their fields. Assumes nothing.
+-- and the DL content. Each fits its bytes, so that the number of all twenty is the sum of their fields.
 use mathlib.Core.Path.{_≡_, ap, _∙_}
 use mathlib.Core.List.{List, _++_}
 use Prim.Native.Nat.{ℕ, _+_, _*_, _^_, _<_}

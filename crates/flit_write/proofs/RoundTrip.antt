@@ -1,6 +1,6 @@
 -- What is read of a written flit is what was written. A sealed flit keeps its first 56 bytes and its DL content below bit 28, where the check
 -- begins, and every field but the check stands there. So the fields read are those of the content that was written, and it was written as
--- the sum of its fields, each below the next one's place. Assumes nothing.
+-- the sum of its fields, each below the next one's place.
 use mathlib.Core.Path.{_≡_, refl, sym, ap, ap₂, _∙_, subst}
 use mathlib.Core.Bool.{Bool, true, false, _&&_}
 use mathlib.Core.List.{List, [], _++_}

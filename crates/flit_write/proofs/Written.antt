@@ -1,4 +1,4 @@
--- Writing: bytes written at a place of a flit, and a mark in a content. Assumes nothing.
+-- Writing: bytes written at a place of a flit, and a mark in a content.
 use mathlib.Core.Path.{_≡_, sym, ap, ap₂, _∙_}
 use mathlib.Core.Bool.{Bool, true, false}
 use mathlib.Core.List.{List, _++_, append-nil, append-assoc}

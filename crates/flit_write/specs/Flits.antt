@@ -1,5 +1,5 @@
 -- The flits that an end writes (01, "Fields"; "Send"). Reserved bits and unnamed bytes of DL-to-DL flits are 0, short flit next is
--- sent 0. Assumes nothing.
+-- sent 0.
 use mathlib.Core.Bool.{Bool}
 use mathlib.Core.List.{List, _++_}
 use Prim.Native.Nat.{ℕ, _+_}

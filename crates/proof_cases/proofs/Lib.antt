@@ -1,2 +1,2 @@
--- The theorem on the table. Assumes nothing.
+-- The theorem on the table.
 pub mod Theorem

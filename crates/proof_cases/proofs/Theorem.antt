@@ -1,5 +1,5 @@
 -- The bench cases hold: each is computed, but that a flit that is sent is right, which the check's theorem says. Both sides of each equation
--- come to the same once the definitions named below are unfolded, down to the division of the check. Assumes nothing.
+-- come to the same once the definitions named below are unfolded, down to the division of the check.
 use mathlib.Core.Path.{_≡_, refl}
 use mathlib.Core.Bool.{true, false}
 use Prim.Native.Nat.{ℕ}

@@ -1,6 +1,5 @@
 -- The bench cases (01, "Bench cases"): one table. Each case is said with the definitions that the contracts of the check, start, accept,
 -- send and receive cite: what the operation gives on a fresh end, or on one that is fresh but for the fields named.
--- Assumes nothing.
 use mathlib.Core.Path.{_≡_}
 use mathlib.Core.Bool.{true, false}
 use mathlib.Core.List.{List, [], _∷_, _++_}

@@ -1,2 +1,2 @@
--- The table of the bench cases. Assumes nothing.
+-- The table of the bench cases.
 pub mod Cases

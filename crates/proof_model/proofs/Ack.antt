@@ -1,5 +1,5 @@
 -- What a receive may do to the sender's half of an end: an acknowledgement, a NACK or damage. It never moves the cursor without making replay
--- pending, and it never moves sent. Assumes nothing.
+-- pending, and it never moves sent.
 use mathlib.Core.Path.{_≡_, refl}
 use mathlib.Core.Bool.{Bool, true, false, true≢false}
 use Prim.Native.Nat.{ℕ, _+_, _≤_}

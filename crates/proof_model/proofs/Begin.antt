@@ -1,4 +1,4 @@
--- Two fresh ends on empty wires meet the invariant, and it says the same of the two ends in either order. Assumes nothing.
+-- Two fresh ends on empty wires meet the invariant, and it says the same of the two ends in either order.
 use mathlib.Core.Path.{refl}
 use mathlib.Core.Bool.{false}
 use mathlib.Core.List.{List, []}

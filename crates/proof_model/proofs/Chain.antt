@@ -1,6 +1,6 @@
 -- The wire. Along it goes the state that an undisturbed receiver would have: where it stands, the data flits it has, whether it is stalled,
 -- how much it has been told of its own sending, and the sender's oldest unit and sent when the flit was sent. Each flit fits the state
--- before it and makes the state after it, so that taking a flit from the wire is to take a step. Assumes nothing.
+-- before it and makes the state after it, so that taking a flit from the wire is to take a step.
 use mathlib.Core.Path.{_≡_, refl}
 use mathlib.Core.Bool.{Bool, true, false}
 use mathlib.Core.List.{List, [], _∷_, _++_}

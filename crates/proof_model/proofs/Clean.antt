@@ -1,5 +1,5 @@
 -- Where nothing that an end has sent was altered: each replay starts where the wire stands, the other end never waits and asks for no
--- replay, and each unit that arrives is the one that is wanted. Assumes nothing.
+-- replay, and each unit that arrives is the one that is wanted.
 use mathlib.Core.Path.{_≡_, refl, ap, sym, _∙_}
 use mathlib.Core.Bool.{Bool, true, false, true≢false}
 use mathlib.Core.List.{List, [], _∷_, _++_}

@@ -1,4 +1,4 @@
--- One end of the abstract link: what it keeps to send, and what it keeps of receiving. Assumes nothing.
+-- One end of the abstract link: what it keeps to send, and what it keeps of receiving.
 use mathlib.Core.Bool.{Bool, false}
 use mathlib.Core.List.{List, []}
 use Prim.Native.Nat.{ℕ}

@@ -1,7 +1,6 @@
 -- The invariant, cut where the wire is cut: what the sender says of the wire's end (Tail), what the receiver says of its beginning (Head), and
 -- what the flits between say of each other (Wire, of Chain.antt). A call of an end touches the end of one wire and the beginning of the
 -- other. A receiver that runs stands where its wire begins; of one that waits nothing is said but that it is not past what was sent.
--- Assumes nothing.
 use mathlib.Core.Path.{_≡_}
 use mathlib.Core.Bool.{false}
 use mathlib.Core.List.{List}

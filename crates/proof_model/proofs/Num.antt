@@ -1,4 +1,4 @@
--- Numbers of flits grow with the numbers of units. Assumes nothing.
+-- Numbers of flits grow with the numbers of units.
 use mathlib.Core.Path.{_≡_}
 use Prim.Native.Nat.{ℕ, zero, suc, _≤_, _<_}
 use native.Mathlib.Omega.{arith}

@@ -1,5 +1,5 @@
 -- Receive keeps the invariant, and nothing sends an end down: an acknowledgement covers no more than was sent, since what is told of receiving
--- never passes what is wanted, and wanted never passes sent; and untold never passes 1,024, since no more than that is held. Assumes nothing.
+-- never passes what is wanted, and wanted never passes sent; and untold never passes 1,024, since no more than that is held.
 use mathlib.Core.Path.{_≡_, refl, ap, sym, subst, _∙_}
 use mathlib.Core.Bool.{Bool, true, false}
 use mathlib.Core.Logic.{_≢_}

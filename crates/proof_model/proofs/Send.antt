@@ -1,4 +1,4 @@
--- Send and accept keep the invariant: what a send puts on the wire fits where the wire ends, and leaves it at the cursor. Assumes nothing.
+-- Send and accept keep the invariant: what a send puts on the wire fits where the wire ends, and leaves it at the cursor.
 use mathlib.Core.Path.{_≡_, refl, ap, sym, _∙_}
 use mathlib.Core.Bool.{Bool, true, false}
 use mathlib.Core.List.{List, [], _∷_, _++_, append-assoc, append-nil}

@@ -1,6 +1,5 @@
 -- What an end of the abstract link may do: accept, send, receive. These are relations, and what the environment chooses is an argument: how a
 -- flit arrives, how much is told, when a waiting end asks again. So they allow all that the end on bytes does, and a little more.
--- Assumes nothing.
 use mathlib.Core.Path.{_≡_}
 use mathlib.Core.Bool.{Bool, true, false}
 use mathlib.Core.Logic.{_≢_}

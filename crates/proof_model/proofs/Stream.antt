@@ -1,6 +1,6 @@
 -- The abstract link has no bytes. The argument of the third test is made on it (docs/PROOF.md): a step of the proof, of which nothing has
 -- to be believed. Here: units, the stream of units that an end is given, and the flits on a wire. Numbers count without end, and the border
--- before a unit is counted in units: so a border is a border by its kind, and no unit can straddle one. Assumes nothing.
+-- before a unit is counted in units: so a border is a border by its kind, and no unit can straddle one.
 use mathlib.Core.Bool.{Bool, true, false}
 use mathlib.Core.List.{List, [], _∷_, _++_}
 use Prim.Native.Nat.{ℕ, zero, suc, _+_}

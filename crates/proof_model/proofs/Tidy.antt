@@ -1,5 +1,5 @@
 -- What refusal 2 asks of the receiver's half: owed at most 8, no more data held than owed, and none while stalled. In mode run it follows
--- from what stands next on the wire. Assumes nothing.
+-- from what stands next on the wire.
 use mathlib.Core.Path.{_≡_, refl, sym, subst, _∙_}
 use mathlib.Core.Bool.{Bool, true, true≢false}
 use mathlib.Core.List.{List, [], _∷_}

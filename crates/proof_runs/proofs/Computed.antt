@@ -1,4 +1,4 @@
--- The runs of specs/Examples.antt, computed. Assumes nothing.
+-- The runs of specs/Examples.antt, computed.
 use mathlib.Core.Path.{_≡_, refl, ap, sym, subst, _∙_}
 use mathlib.Core.Bool.{Bool, true, false, _&&_, true≢false}
 use mathlib.Core.List.{List, [], _∷_, _++_}

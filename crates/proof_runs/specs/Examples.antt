@@ -1,6 +1,6 @@
 -- Four runs. The first has damage, replay, a duplicate and deliveries both ways, the second data and damage across two flits, and both are
 -- as the buyer says: so the third test of acceptance speaks of something. The other two show that its premises on what arrives are needed:
--- without the one on replay flits, and with 37 neighbouring bits in place of 36, a wrong unit is handed on. Assumes nothing.
+-- without the one on replay flits, and with 37 neighbouring bits in place of 36, a wrong unit is handed on.
 use mathlib.Core.Bool.{cond}
 use mathlib.Core.List.{List, [], _∷_, _++_}
 use Prim.Native.Nat.{ℕ, suc}

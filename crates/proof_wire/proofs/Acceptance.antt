@@ -1,5 +1,4 @@
 -- The third test of acceptance, proved: whatever two fresh ends come to over any run meets each clause of the demand, both ways.
--- Assumes nothing.
 use mathlib.Core.Path.{_≡_, refl, ap, ap₂, sym, subst, _∙_}
 use mathlib.Core.Bool.{Bool, true, false, not, _&&_, true≢false, false≢true}
 use mathlib.Core.Logic.{_≢_}

@@ -1,6 +1,6 @@
 -- The wire as bytes and as flits one by one. What has been sent, flit by flit, is what arrives, flit by flit; the units whose last flit
 -- is among the first t flits are those that have arrived when t flits have; and where nothing was altered, the units along a wire are the
--- units of the sender's stream, one after the other. Assumes nothing.
+-- units of the sender's stream, one after the other.
 use mathlib.Core.Path.{_≡_, refl, ap, ap₂, sym, _∙_}
 use mathlib.Core.Bool.{Bool, true, false, _&&_, true≢false, cond}
 use mathlib.Core.List.{List, [], _∷_, _++_, map, append-assoc, append-nil}

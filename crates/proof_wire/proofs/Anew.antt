@@ -1,5 +1,5 @@
 -- A replay flit on bytes does what it does on the abstract link: the acknowledge number is understood, and d = wanted - start is under half
--- exactly when the replay does not start past wanted. Assumes nothing.
+-- exactly when the replay does not start past wanted.
 use mathlib.Core.Path.{_≡_, refl, ap, ap₂, sym, subst, _∙_}
 use mathlib.Core.Bool.{Bool, true, false, cond}
 use mathlib.Core.Logic.{_≢_}

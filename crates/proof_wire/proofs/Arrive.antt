@@ -1,5 +1,5 @@
 -- Receive on bytes does what the abstract receive does: for each flit that can stand next on a wire between two honest ends, the answer,
--- and then the state, the hold and what is handed on. Assumes nothing.
+-- and then the state, the hold and what is handed on.
 use mathlib.Core.Path.{_≡_, refl, ap, ap₂, sym, subst, _∙_}
 use mathlib.Core.Bool.{Bool, true, false, not, cond}
 use mathlib.Core.Logic.{_≢_}

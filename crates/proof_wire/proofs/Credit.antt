@@ -1,5 +1,5 @@
 -- An acknowledgement on the kept state does what it does on the abstract link: the units all of whose flits are acknowledged leave the
--- store, and where they pass the cursor it moves to the oldest unit left and replay becomes pending. Assumes nothing.
+-- store, and where they pass the cursor it moves to the oldest unit left and replay becomes pending.
 use mathlib.Core.Path.{_≡_, refl, ap, sym, subst, _∙_}
 use mathlib.Core.Bool.{Bool, true, false}
 use mathlib.Core.List.{List}

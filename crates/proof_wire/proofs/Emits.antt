@@ -1,4 +1,4 @@
--- Send on bytes does what the abstract send does, whatever becomes of its units on the way. Assumes nothing.
+-- Send on bytes does what the abstract send does, whatever becomes of its units on the way.
 use mathlib.Core.Path.{_≡_, refl, ap, ap₂, sym, subst, _∙_}
 use mathlib.Core.Bool.{Bool, true, false, true≢false, cond}
 use mathlib.Core.Logic.{_≢_}

@@ -1,5 +1,5 @@
 -- The whole of receive: whatever flit stands next on the wire, in mode run and in mode wait, receive on bytes does what the abstract
--- receive does. Assumes nothing.
+-- receive does.
 use mathlib.Core.Path.{_≡_, refl, ap, sym, subst, _∙_}
 use mathlib.Core.Bool.{Bool, true, false, _&&_, cond}
 use mathlib.Core.List.{List, _++_}

@@ -1,6 +1,5 @@
 -- Two ends on bytes and two ends of the abstract link, side by side: what each kept state stands for, what each wire carries, and the
 -- invariant. Each call keeps it. `x` and `y` say whether what a and what b have sent is all unaltered, and then what holds besides.
--- Assumes nothing.
 use mathlib.Core.Path.{_≡_, refl, ap, sym, subst, _∙_}
 use mathlib.Core.Bool.{Bool, true, false, not, _&&_, false≢true}
 use mathlib.Core.Logic.{_≢_}

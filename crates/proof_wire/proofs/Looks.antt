@@ -1,4 +1,4 @@
--- How a receiver looks at the next flit, and the tests of 01, Receive 1 to 3, where two honest ends stand. Assumes nothing.
+-- How a receiver looks at the next flit, and the tests of 01, Receive 1 to 3, where two honest ends stand.
 use mathlib.Core.Path.{_≡_, refl, ap, sym, _∙_}
 use mathlib.Core.Bool.{Bool, true, false, not, _&&_, _||_, cond}
 use mathlib.Core.List.{List, [], _++_}

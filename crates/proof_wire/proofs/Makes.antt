@@ -1,5 +1,5 @@
 -- What an end writes, and what is read of it where it arrives. A unit is sent with its check, so what is right of what arrives is what was
--- sent, whatever the damage; and of what was sent each field is read as it was meant. Assumes nothing.
+-- sent, whatever the damage; and of what was sent each field is read as it was meant.
 use mathlib.Core.Path.{_≡_, refl, ap, ap₂, sym, subst, _∙_}
 use mathlib.Core.Bool.{Bool, true, false, not, _&&_, true≢false}
 use mathlib.Core.List.{List, [], _∷_, _++_, append-assoc}

@@ -1,4 +1,4 @@
--- Accept on bytes: what it takes is a unit, and the places after the held flits then hold it. Assumes nothing.
+-- Accept on bytes: what it takes is a unit, and the places after the held flits then hold it.
 use mathlib.Core.Path.{_≡_, refl, ap, ap₂, sym, subst, _∙_}
 use mathlib.Core.Bool.{true, not, _&&_}
 use mathlib.Core.List.{List, [], _∷_, _++_}

@@ -1,5 +1,5 @@
 -- Lists of bytes in pieces of 64. A flit written at a place is read there, and what stands at the other places stays; a list of whole
--- flits and the bytes that they make in a row are the same thing. Assumes nothing.
+-- flits and the bytes that they make in a row are the same thing.
 use mathlib.Core.Path.{_≡_, refl, sym, ap, ap₂, _∙_}
 use mathlib.Core.Logic.{_≢_}
 use mathlib.Core.List.{List, [], _∷_, _++_, append-assoc, append-nil}

@@ -1,4 +1,4 @@
--- Places round a ring. Assumes nothing.
+-- Places round a ring.
 use mathlib.Core.Path.{_≡_, sym, ap, _∙_}
 use mathlib.Core.Logic.{_≢_}
 use Prim.Native.Nat.{ℕ, _+_, _-_, _≤_, _<_}

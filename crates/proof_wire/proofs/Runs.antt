@@ -1,5 +1,5 @@
 -- Any run of two fresh ends keeps the two systems side by side. The streams are what has been accepted at the end of the run, so that
--- nothing about them changes on the way. Assumes nothing.
+-- nothing about them changes on the way.
 use mathlib.Core.Path.{_≡_, refl, ap, sym, subst, _∙_}
 use mathlib.Core.Bool.{Bool, true, false, _&&_, false≢true, cond}
 use mathlib.Core.List.{List, [], _∷_, _++_}

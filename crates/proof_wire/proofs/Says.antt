@@ -1,5 +1,4 @@
 -- What the bytes of an arriving flit say of the flit that was meant, and what the receiver's half of a kept state stands for.
--- Assumes nothing.
 use mathlib.Core.Path.{_≡_, refl, ap}
 use mathlib.Core.Bool.{Bool, true, false, _&&_}
 use mathlib.Core.List.{List, [], _∷_, _++_}

@@ -1,4 +1,4 @@
--- The tests of refusals 1 and 2 hold of every state that stands for a state of the abstract link. Assumes nothing.
+-- The tests of refusals 1 and 2 hold of every state that stands for a state of the abstract link.
 use mathlib.Core.Path.{_≡_, refl, ap, ap₂, sym, subst, _∙_}
 use mathlib.Core.Bool.{Bool, true, false, not, _&&_, _||_, cond}
 use mathlib.Core.List.{List}

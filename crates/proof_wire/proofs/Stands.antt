@@ -1,6 +1,6 @@
 -- What the kept state of an end stands for: the sender's half of the abstract link, with a store whose places hold the accepted units.
 -- Then what a walk over the held flits meets: on the border of each unit the data flits of that unit, and inside a unit no border. So
--- the last border among the oldest flits is where the unit begins in which they end. Assumes nothing.
+-- the last border among the oldest flits is where the unit begins in which they end.
 use mathlib.Core.Path.{_≡_, refl, ap, ap₂, sym, subst, _∙_}
 use mathlib.Core.Bool.{Bool, true, false}
 use mathlib.Core.List.{List, [], _∷_, _++_}

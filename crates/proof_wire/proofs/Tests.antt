@@ -1,4 +1,4 @@
--- A test that is no makes a conjunction no. Assumes nothing.
+-- A test that is no makes a conjunction no.
 use mathlib.Core.Path.{_≡_, refl}
 use mathlib.Core.Bool.{Bool, true, false, _&&_}
 

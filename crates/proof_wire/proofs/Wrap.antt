@@ -1,6 +1,6 @@
 -- Sequence numbers stand for numbers without end: each is the rest by 2 ^ k, where k is the width. Two numbers less than 2 ^ k apart
 -- have their difference back. The width of this edition, half of its numbers and the capacity stand together in `near`: no number in
--- use is further from another than the capacity, and that is under half. Assumes nothing.
+-- use is further from another than the capacity, and that is under half.
 use mathlib.Core.Path.{_≡_, refl, sym, ap, _∙_}
 use Prim.Native.Nat.{ℕ, _+_, _-_, _%_, _^_, _≤_, _<_}
 use native.Mathlib.Nat.{mod-add-mod, mod-lt, add-comm, add-mod-right}

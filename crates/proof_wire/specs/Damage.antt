@@ -1,6 +1,6 @@
 -- What may become of a unit on its way (00, condition B 3): "each unit arrives unaltered, or altered in an odd number of bits, or
 -- altered only within 36 neighbouring bits; and no flit not sent as a replay flit arrives reading as a right one". All of it is said
--- of bytes alone. The kinds of damage stand here and nowhere else. Assumes nothing.
+-- of bytes alone. The kinds of damage stand here and nowhere else.
 use mathlib.Core.Path.{_≡_}
 use mathlib.Core.Bool.{Bool, true, false, _&&_, cond}
 use mathlib.Core.List.{List, [], _∷_, _++_}

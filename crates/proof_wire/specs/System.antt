@@ -1,6 +1,6 @@
 -- Two fresh ends, each with one store and one hold buffer that nobody else writes, and the two wires between them (00, condition B 3).
 -- A run is any list of accepts, sends and receives of the two, each call given the state, the store and the hold as the last one left
--- them. The calls are those of crates accept, send and receive. Assumes nothing.
+-- them. The calls are those of crates accept, send and receive.
 use mathlib.Core.Path.{_≡_}
 use mathlib.Core.Bool.{Bool, cond}
 use mathlib.Core.List.{List, [], _∷_, _++_}

@@ -1,5 +1,5 @@
 -- The third test of acceptance (00, condition B 3), clause by clause, as it is said of any system that two fresh ends come to. Seen from
--- a: what a has sent, and what b has handed on; the other direction is the same of the turned system. Assumes nothing.
+-- a: what a has sent, and what b has handed on; the other direction is the same of the turned system.
 use mathlib.Core.Path.{_≡_}
 use mathlib.Core.Bool.{Bool, true, false, not, _&&_, cond}
 use mathlib.Core.Logic.{_≢_}

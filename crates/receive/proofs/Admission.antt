@@ -1,4 +1,4 @@
--- What it says that receive refuses nothing. Assumes nothing.
+-- What it says that receive refuses nothing.
 use mathlib.Core.Bool.{true, false, not, _&&_}
 use mathlib.Core.List.{List}
 use mathlib.Core.Path.{_≡_}

@@ -1,6 +1,6 @@
 -- Where n more flits are acknowledged and the flits up to the last border among them leave the store, the sending side stays sound:
 -- the walk goes on from that border as before, the numbers lie as far after the new oldest flit as they lay after the border, and
--- the acknowledged number lies inside the unit that begins there. Assumes nothing.
+-- the acknowledged number lies inside the unit that begins there.
 use mathlib.Core.Bool.{Bool, true, false, cond}
 use mathlib.Core.List.{List}
 use mathlib.Core.Path.{_≡_, refl, sym, ap, _∙_}

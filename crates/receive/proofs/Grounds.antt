@@ -1,5 +1,5 @@
 -- What an answer says of the receiving side: a held flit was owed, an idle flit meets no data, a control flit's run length and a
--- replay flit's previous run length are at most 8. Assumes nothing.
+-- replay flit's previous run length are at most 8.
 use mathlib.Core.Bool.{Bool, true, false, not, _&&_, _||_}
 use mathlib.Core.Path.{_≡_, refl}
 use Prim.Native.Nat.{ℕ, _<_, _≤_}

@@ -1,5 +1,5 @@
 -- The ring from a later place: the place n after the place b after the first is the place b + n after it, so that the walk from a
--- border on is the walk over the whole from there; and past the last border there is none. Assumes nothing.
+-- border on is the walk over the whole from there; and past the last border there is none.
 use mathlib.Core.Bool.{Bool, true, false, cond}
 use mathlib.Core.List.{List}
 use mathlib.Core.Path.{_≡_, refl, sym, ap, ap₂, _∙_}

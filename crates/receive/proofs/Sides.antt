@@ -1,5 +1,5 @@
 -- A sound state as its two sides: what is sent, over the ring, and what is received. Each is a record over the numbers that it is
--- about, so that a change to the other side leaves it as it is. Assumes nothing.
+-- about, so that a change to the other side leaves it as it is.
 use mathlib.Core.Bool.{Bool, true, not, _&&_, _||_, cond}
 use mathlib.Core.List.{List}
 use mathlib.Core.Path.{_≡_}

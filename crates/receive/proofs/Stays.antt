@@ -1,4 +1,4 @@
--- A sound state stays sound under receive, whatever it answers, its store stays its own, and its numbers fit their type. Assumes nothing.
+-- A sound state stays sound under receive, whatever it answers, its store stays its own, and its numbers fit their type.
 use mathlib.Core.Bool.{Bool, true, false, not, _||_}
 use mathlib.Core.List.{List}
 use mathlib.Core.Path.{_≡_, refl, ap, _∙_}

@@ -1,4 +1,4 @@
--- A refused call of receive answers the refusal and changes neither the state nor hold. Assumes nothing.
+-- A refused call of receive answers the refusal and changes neither the state nor hold.
 use mathlib.Core.List.{List}
 use mathlib.Core.Path.{_≡_}
 use Prim.Native.Nat.{ℕ}

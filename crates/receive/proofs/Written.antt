@@ -1,5 +1,5 @@
 -- Only a held flit and a delivery write hold, and each only the 64 bytes past the data flits already there: the bytes of hold stay as
--- many, and the flit at every other place stays. Assumes nothing.
+-- many, and the flit at every other place stays.
 use mathlib.Core.Bool.{Bool, true, false}
 use mathlib.Core.List.{List}
 use mathlib.Core.Path.{_≡_, refl}

@@ -1,5 +1,5 @@
 -- Receive takes one arriving flit (01, "Receive"): its refusals, hold after each answer, and the whole of it. The steps are those of crates
--- arrivals, answers and effects. Assumes nothing.
+-- receive_test, receive_answer and receive_state.
 use mathlib.Core.Bool.{not, _&&_, cond}
 use mathlib.Core.List.{List}
 use Prim.Native.Nat.{ℕ}

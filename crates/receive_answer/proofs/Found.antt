@@ -1,5 +1,5 @@
 -- What an answer says of the tests that led to it: where an acknowledgement counts it is not past sent, and a delivery does not bring
--- untold over 1,024. Assumes nothing.
+-- untold over 1,024.
 use mathlib.Core.Bool.{Bool, true, false, _&&_, not}
 use mathlib.Core.Path.{_≡_}
 use Prim.Native.Nat.{ℕ, _+_, _≤_}

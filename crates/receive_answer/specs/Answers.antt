@@ -1,5 +1,5 @@
 -- What receive answers, step by step of 01, "Receive": a function of the state, the fields of the arriving flit and whether the check
--- is right. Assumes nothing.
+-- is right.
 use mathlib.Core.Bool.{Bool, not, _&&_, cond}
 use Prim.Native.Nat.{ℕ, _+_}
 use lib.Dec.{ltb, eqb}

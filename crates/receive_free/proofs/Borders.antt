@@ -1,4 +1,4 @@
--- The last unit border among the oldest flits: it lies at or before them, and on a border. Assumes nothing.
+-- The last unit border among the oldest flits: it lies at or before them, and on a border.
 use mathlib.Core.Bool.{true, cond}
 use mathlib.Core.List.{List}
 use mathlib.Core.Path.{_≡_}

@@ -1,4 +1,4 @@
--- The state after an acknowledgement, put together from the states that its parts give. Assumes nothing.
+-- The state after an acknowledgement, put together from the states that its parts give.
 use mathlib.Core.List.{List}
 use mathlib.Core.Path.{_≡_, ap, ap₂, _∙_}
 use Prim.Native.Nat.{ℕ}

@@ -1,5 +1,4 @@
 -- An acknowledgement counts (01, Receive 4; "What an end keeps"): units all of whose flits are acknowledged leave the store.
--- Assumes nothing.
 use mathlib.Core.Bool.{Bool, true, cond}
 use mathlib.Core.Path.{_≡_}
 use mathlib.Core.List.{List}

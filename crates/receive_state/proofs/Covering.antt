@@ -1,4 +1,4 @@
--- An acknowledgement that is not past sent covers held flits only. Assumes nothing.
+-- An acknowledgement that is not past sent covers held flits only.
 use mathlib.Core.Bool.{Bool, true, false}
 use mathlib.Core.List.{List}
 use mathlib.Core.Path.{_≡_, refl, sym, subst}

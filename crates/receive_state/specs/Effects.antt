@@ -1,4 +1,4 @@
--- The state after each answer, step by step of 01, "Receive" 3 to 6. Assumes nothing.
+-- The state after each answer, step by step of 01, "Receive" 3 to 6.
 use mathlib.Core.Bool.{true, cond}
 use mathlib.Core.List.{List}
 use Prim.Native.Nat.{ℕ, _+_}

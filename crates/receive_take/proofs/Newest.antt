@@ -1,4 +1,4 @@
--- The first seven of eight values, one by one. Assumes nothing.
+-- The first seven of eight values, one by one.
 use mathlib.Core.List.{List, [], _∷_}
 use mathlib.Core.Path.{_≡_, refl}
 use Prim.Native.Nat.{ℕ}

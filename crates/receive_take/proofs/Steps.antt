@@ -1,4 +1,4 @@
--- The state after a step, put together from the states that its parts give. Assumes nothing.
+-- The state after a step, put together from the states that its parts give.
 use mathlib.Core.List.{List}
 use mathlib.Core.Path.{_≡_, ap, ap₂}
 use Prim.Native.Nat.{ℕ, _+_}

@@ -1,4 +1,4 @@
--- The state after a flit that is taken, step by step of 01, "Receive" 4 to 6. Assumes nothing.
+-- The state after a flit that is taken, step by step of 01, "Receive" 4 to 6.
 use mathlib.Core.List.{List, _∷_}
 use Prim.Native.Nat.{ℕ, _+_}
 use lib.ListN.{take}

@@ -1,4 +1,4 @@
--- What is asked of an arriving flit, step by step of 01, "Receive" 1 to 3. Assumes nothing.
+-- What is asked of an arriving flit, step by step of 01, "Receive" 1 to 3.
 use mathlib.Core.Bool.{Bool, not, _&&_, _||_, cond}
 use mathlib.Core.List.{List, _++_}
 use Prim.Native.Nat.{ℕ, _+_, _*_}

@@ -1,5 +1,4 @@
 -- How long a burst is: 64 bytes for each flit that send says it wrote, and at most ten flits, so that 640 bytes are enough.
--- Assumes nothing.
 use mathlib.Core.Bool.{Bool, true, false}
 use mathlib.Core.List.{List, _++_}
 use mathlib.Core.Path.{_≡_, refl, sym, ap, ap₂, _∙_}

@@ -1,4 +1,4 @@
--- The verdict of send, by the tests that lead to it. Assumes nothing.
+-- The verdict of send, by the tests that lead to it.
 use mathlib.Core.Bool.{Bool, true, false, not, cond}
 use mathlib.Core.List.{List}
 use mathlib.Core.Path.{_≡_, refl, ap, _∙_}

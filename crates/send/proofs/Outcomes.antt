@@ -1,5 +1,5 @@
 -- What comes out of a call: a refusal changes neither the state nor the output, and an admitted call writes the burst to the start of
--- the output and moves the end past it. Assumes nothing.
+-- the output and moves the end past it.
 use mathlib.Core.List.{List, _++_}
 use mathlib.Core.Path.{_≡_, ap}
 use Prim.Native.Nat.{ℕ}

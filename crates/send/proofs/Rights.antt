@@ -1,4 +1,4 @@
--- Every flit and unit that is sent is right by the check. Assumes nothing.
+-- Every flit and unit that is sent is right by the check.
 use mathlib.Core.Bool.{Bool, true}
 use mathlib.Core.List.{List, _++_}
 use mathlib.Core.Path.{_≡_}

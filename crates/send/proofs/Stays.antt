@@ -1,5 +1,5 @@
 -- An end stays sound with its store, whatever send answers. Past a unit the cursor stands on the next border, and sent is the further
--- of the two. Assumes nothing.
+-- of the two.
 use mathlib.Core.Bool.{true, false, cond}
 use mathlib.Core.List.{List}
 use mathlib.Core.Path.{_≡_, refl, ap, _∙_}

@@ -1,5 +1,5 @@
 -- Send writes what goes on the wire next (01, "Send"): its refusals, its answer, and what the output then holds. The steps are those of
--- crate burst. Assumes nothing.
+-- crate send_burst.
 use mathlib.Core.Bool.{not, cond}
 use mathlib.Core.List.{List, _++_}
 use Prim.Native.Nat.{ℕ}

@@ -1,4 +1,4 @@
--- The burst and its flits, case by case of what waits. Assumes nothing.
+-- The burst and its flits, case by case of what waits.
 use mathlib.Core.Bool.{true, false}
 use mathlib.Core.List.{List, _++_}
 use mathlib.Core.Path.{_≡_, _∙_}

@@ -1,5 +1,5 @@
 -- A burst in the output: a flit and then what is written to the rest of the output. Of a part that comes back the borrow checker says
--- `putMid`: the part's bytes in their place. Assumes nothing.
+-- `putMid`: the part's bytes in their place.
 use mathlib.Core.List.{List, [], _++_, append-assoc, append-nil}
 use mathlib.Core.Path.{_≡_, sym, ap, ap₂, _∙_}
 use Prim.Native.Nat.{ℕ, _+_, _-_}

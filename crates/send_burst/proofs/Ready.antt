@@ -1,5 +1,5 @@
 -- What soundness says where the burst is written: the ring is the store's, the run length before the cursor is at most 8, and the unit
--- at the cursor is held whole. Assumes nothing.
+-- at the cursor is held whole.
 use mathlib.Core.Bool.{true}
 use mathlib.Core.List.{List}
 use mathlib.Core.Path.{_≡_, subst}

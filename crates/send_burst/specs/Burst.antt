@@ -1,4 +1,4 @@
--- The burst of one send, step by step of 01, "Send". Assumes nothing.
+-- The burst of one send, step by step of 01, "Send".
 use mathlib.Core.Bool.{false, cond}
 use mathlib.Core.List.{List, _++_}
 use Prim.Native.Nat.{ℕ, _+_}

@@ -1,4 +1,4 @@
--- The bytes of the idle and the replay flits that are sent. Assumes nothing.
+-- The bytes of the idle and the replay flits that are sent.
 use mathlib.Core.Bool.{Bool}
 use mathlib.Core.List.{_++_}
 use mathlib.Core.Path.{_≡_, ap₂, _∙_}

@@ -1,4 +1,4 @@
--- The replay flits of one send (01, "Send"). Assumes nothing.
+-- The replay flits of one send (01, "Send").
 use mathlib.Core.List.{List}
 use Prim.Native.Nat.{ℕ}
 use lib.Dec.{ltb}

@@ -1,4 +1,4 @@
--- What a flit carries of untold, and the end after a send, case by case of what waits. Assumes nothing.
+-- What a flit carries of untold, and the end after a send, case by case of what waits.
 use mathlib.Core.Bool.{true, false, cond}
 use mathlib.Core.Path.{_≡_, ap, _∙_}
 use Prim.Native.Nat.{ℕ, _-_, _<_, _≤_}

@@ -1,4 +1,4 @@
--- What one send moves, step by step of 01, "Send". Assumes nothing.
+-- What one send moves, step by step of 01, "Send".
 use mathlib.Core.Bool.{Bool, false, cond}
 use Prim.Native.Nat.{ℕ, _+_, _-_}
 use lib.Dec.{ltb, leb}

@@ -1,4 +1,4 @@
--- The bytes of a unit: 64 for each of its flits. Assumes nothing.
+-- The bytes of a unit: 64 for each of its flits.
 use mathlib.Core.List.{List, _++_}
 use mathlib.Core.Path.{_≡_, refl, ap₂, _∙_}
 use Prim.Native.Nat.{ℕ, zero, suc, _+_, _*_, _<_, _≤_}

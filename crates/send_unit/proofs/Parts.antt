@@ -1,4 +1,4 @@
--- A unit that is sealed where it stands in a buffer. Assumes nothing.
+-- A unit that is sealed where it stands in a buffer.
 use mathlib.Core.List.{List, _++_}
 use mathlib.Core.Path.{_≡_, ap, ap₂, _∙_}
 use Prim.Native.Nat.{ℕ}

@@ -1,5 +1,5 @@
 -- A unit as it is sent (01, Send 2). `run` is the run length of the control flit before the cursor (0 if none): the data flits owed
--- there. Assumes nothing.
+-- there.
 use mathlib.Core.List.{List, [], _++_}
 use Prim.Native.Nat.{ℕ, zero, suc, _+_}
 use lib.Dec.{ltb}

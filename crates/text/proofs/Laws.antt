@@ -1,5 +1,5 @@
 -- Laws of texts in a buffer, of decimal numbers and of forms: a text written after a text is the two joined, writing keeps the length,
--- twenty digits are enough for any number under 2 ^ 64, and a form is written a byte or a number at a time. Assumes nothing.
+-- twenty digits are enough for any number under 2 ^ 64, and a form is written a byte or a number at a time.
 use mathlib.Core.Bool.{Bool, true, false, _&&_, cond}
 use mathlib.Core.List.{List, [], _∷_, _++_, append-nil, append-assoc}
 use mathlib.Core.Path.{_≡_, refl, ap, sym, subst, _∙_}

@@ -1,4 +1,4 @@
--- Text as bytes: ASCII, decimal numbers, and a buffer with a text written into it. Assumes nothing.
+-- Text as bytes: ASCII, decimal numbers, and a buffer with a text written into it.
 use mathlib.Core.Bool.{cond}
 use mathlib.Core.List.{List, [], _∷_, _++_}
 use mathlib.Core.Path.{_≡_}

@@ -1,4 +1,4 @@
--- Sums that are reduced on the way, one more byte in hexadecimal, and how long that is. Assumes nothing.
+-- Sums that are reduced on the way, one more byte in hexadecimal, and how long that is.
 use mathlib.Core.List.{List, [], _∷_, _++_}
 use mathlib.Core.Path.{_≡_, refl, sym, _∙_}
 use Prim.Native.Nat.{ℕ, _+_, _*_, _/_, _%_, _≤_, _<_}

@@ -1,4 +1,4 @@
--- Bytes as text: a checksum, and hexadecimal. Assumes nothing.
+-- Bytes as text: a checksum, and hexadecimal.
 use mathlib.Core.Bool.{cond}
 use mathlib.Core.List.{List, [], _∷_}
 use Prim.Native.Nat.{ℕ, _+_, _-_, _*_, _/_, _%_}

@@ -1,4 +1,4 @@
--- The texts as forms with their numbers, and how long they are. Assumes nothing.
+-- The texts as forms with their numbers, and how long they are.
 use mathlib.Core.Bool.{Bool, true, false}
 use mathlib.Core.List.{List, [], _∷_, _++_, append-assoc}
 use mathlib.Core.Path.{_≡_, refl, ap, ap₂, sym, _∙_}

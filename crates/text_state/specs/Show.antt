@@ -1,4 +1,4 @@
--- The state of an end and the ticket on one line. Assumes nothing.
+-- The state of an end and the ticket on one line.
 use mathlib.Core.Bool.{Bool, cond}
 use mathlib.Core.List.{List, [], _++_}
 use Prim.Native.Nat.{ℕ, zero, suc}

@@ -1,4 +1,4 @@
--- How long the words are. Assumes nothing.
+-- How long the words are.
 use mathlib.Core.List.{List}
 use mathlib.Core.Path.{_≡_, ap}
 use Prim.Native.Nat.{ℕ, _≤_}

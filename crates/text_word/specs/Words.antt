@@ -1,4 +1,4 @@
--- The words for answers and modes (01, "Receive"; "The bench ticket"). Assumes nothing.
+-- The words for answers and modes (01, "Receive"; "The bench ticket").
 use mathlib.Core.List.{List}
 use Prim.Native.Nat.{ℕ}
 use Rattle.text.specs.Text.{ascii}

@@ -1,4 +1,4 @@
--- Laws of the ticket: what a call leaves of each count, and its text as a form. Assumes nothing.
+-- Laws of the ticket: what a call leaves of each count, and its text as a form.
 use mathlib.Core.List.{List, _++_, append-assoc}
 use mathlib.Core.Path.{_≡_, ap}
 use Prim.Native.Nat.{ℕ, _+_, _≤_, _<_, _^_}

@@ -1,6 +1,5 @@
 -- The ticket of a session: from a fresh ticket on, after any list of calls, each count is the count over the answers given so far,
 -- up to where it stops. By induction over the calls, from any ticket: a count that stops and is then added to is the sum that stops.
--- Assumes nothing.
 use mathlib.Core.List.{List, [], _∷_}
 use mathlib.Core.Path.{_≡_, _∙_}
 use Prim.Native.Nat.{ℕ, _+_, _≤_}

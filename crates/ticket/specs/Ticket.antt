@@ -1,4 +1,4 @@
--- The counts of a session (01, "The bench ticket"): what a call adds to each, and the ticket as text. Assumes nothing.
+-- The counts of a session (01, "The bench ticket"): what a call adds to each, and the ticket as text.
 use mathlib.Core.Bool.{cond}
 use mathlib.Core.List.{List, [], _∷_, _++_}
 use Prim.Native.Nat.{ℕ, _+_, min}

@@ -1,4 +1,4 @@
--- The flits that an accepted unit adds are those that the end then holds more. Assumes nothing.
+-- The flits that an accepted unit adds are those that the end then holds more.
 use mathlib.Core.List.{List}
 use mathlib.Core.Path.{_≡_, refl, ap}
 use Prim.Native.Nat.{ℕ, _+_, _-_}

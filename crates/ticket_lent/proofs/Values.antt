@@ -1,4 +1,4 @@
--- A ticket and an end as machine values. Assumes nothing.
+-- A ticket and an end as machine values.
 use mathlib.Core.List.{List}
 use mir.Val.{Val}
 use denote.Struct.Laws as LL

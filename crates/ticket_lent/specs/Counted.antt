@@ -1,5 +1,5 @@
 -- Accept and receive with the ticket that the caller lends (01, "The bench ticket"): the answer and the end as without it, and the
--- ticket after the call. Assumes nothing.
+-- ticket after the call.
 use mathlib.Core.List.{List}
 use Prim.Native.Nat.{ℕ}
 use Rattle.end_state.specs.declared.End.{End}

@@ -1,4 +1,4 @@
--- `accept::accept` meets its contract: the verdict says whether the state and the store move. Assumes nothing.
+-- `accept::accept` meets its contract: the verdict says whether the state and the store move.
 use borrow.Author.Needs.{needs}
 use native.Mathlib.Omega.{arith}
 use mathlib.Core.Path.{_≡_, sym, _∙_}

@@ -1,5 +1,5 @@
 -- `accept::store_unit` meets its contract. The loop's invariant: the store is as long as before, and holds the first n flits of the
--- unit at the places after the held flits. Assumes nothing.
+-- unit at the places after the held flits.
 use mathlib.Core.List.{List}
 use mathlib.Core.Path.{_≡_, refl, sym, ap, ap₂, _∙_}
 use Prim.Native.Nat.{ℕ, _+_, _-_, _≤_}

@@ -1,4 +1,4 @@
--- `accept_verdict::unit_shaped` meets its contract. Assumes nothing.
+-- `accept_verdict::unit_shaped` meets its contract.
 use mathlib.Core.Path.{refl}
 use Rattle.accept_verdict.specs.Admission.{unit-shaped}
 use Rattle.accept_verdict.proofs.unit_shaped.Statement.{statement}

@@ -1,5 +1,4 @@
 -- `accept_verdict::verdict` meets its contract: at each `return` the tests that led there say which case of `verdict` holds.
--- Assumes nothing.
 use borrow.Author.Needs.{needs}
 use borrow.Author.Tests.{not-true, not-false, eq-eqb, ne-eqb, lt-ltb, le-ltb}
 use native.Mathlib.Omega.{arith}

@@ -1,5 +1,5 @@
 -- `bench::print_all` is safe and ends. The measure is the turns left; with each at most 1,024 flits come, so the count of flits does
--- not wrap. Assumes nothing.
+-- not wrap.
 use mathlib.Core.Path.{_≡_, refl, ap, _∙_}
 use Prim.Native.Nat.{_+_, _*_, _≤_, _<_}
 use native.Mathlib.Omega.{arith}

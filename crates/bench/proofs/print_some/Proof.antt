@@ -1,5 +1,4 @@
 -- `bench::print_some` meets its contract: what is read fits the input, its lines fit the output, and at most 1,024 flits came.
--- Assumes nothing.
 use mathlib.Core.Path.{_≡_}
 use Prim.Native.Nat.{_+_, _≤_}
 use native.Mathlib.Omega.{arith}

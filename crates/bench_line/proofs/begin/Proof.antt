@@ -1,4 +1,4 @@
--- `bench_line::begin` meets its contract. Assumes nothing.
+-- `bench_line::begin` meets its contract.
 use mathlib.Core.Path.{refl}
 use Rattle.bench_line.specs.Bench.{bench-begun}
 use borrow.Author.Needs.{needs}

@@ -1,4 +1,4 @@
--- `bench_line::keep_rest` meets its contract: the first i bytes are moved, and those after them are as they were. Assumes nothing.
+-- `bench_line::keep_rest` meets its contract: the first i bytes are moved, and those after them are as they were.
 use mathlib.Core.Path.{_≡_, refl, sym, ap, _∙_}
 use mathlib.Core.List.{List, _++_}
 use Prim.Native.Nat.{ℕ, suc, _+_, _-_, _≤_, _<_}

@@ -1,4 +1,4 @@
--- `bench_line::print_flit` meets its contract: what receive answers is printed and counted. Assumes nothing.
+-- `bench_line::print_flit` meets its contract: what receive answers is printed and counted.
 use mathlib.Core.Path.{refl, ap}
 use native.Mathlib.Omega.{arith}
 use Rattle.text.proofs.Laws.{puts-as}

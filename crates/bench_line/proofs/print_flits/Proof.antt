@@ -1,5 +1,4 @@
 -- `bench_line::print_flits` meets its contract: after n turns, what is kept, hold and the output are as after the first n flits.
--- Assumes nothing.
 use mathlib.Core.Path.{_≡_, refl, ap, _∙_}
 use Prim.Native.Nat.{ℕ, _+_, _-_, _*_, _/_, _≤_}
 use native.Mathlib.Omega.{arith}

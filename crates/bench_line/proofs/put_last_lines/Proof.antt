@@ -1,4 +1,4 @@
--- `bench_line::put_last_lines` meets its contract: the rest, and the ticket where it is asked for. Assumes nothing.
+-- `bench_line::put_last_lines` meets its contract: the rest, and the ticket where it is asked for.
 use mathlib.Core.List.{[], _∷_}
 use native.Mathlib.Omega.{arith}
 use Rattle.text.specs.Text.{ascii}

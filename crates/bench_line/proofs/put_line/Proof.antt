@@ -1,4 +1,4 @@
--- `bench_line::put_line` meets its contract: five texts, one after the other. Assumes nothing.
+-- `bench_line::put_line` meets its contract: five texts, one after the other.
 use mathlib.Core.List.{[], _∷_}
 use mathlib.Core.Path.{ap}
 use native.Mathlib.Omega.{arith}

@@ -1,4 +1,4 @@
--- `c_speed::end_sends_with` is safe and ends: the output stays as long as it was, and the turns run out. Assumes nothing.
+-- `c_speed::end_sends_with` is safe and ends: the output stays as long as it was, and the turns run out.
 use mathlib.Core.Path.{_≡_, refl, _∙_}
 use lib.ListN.{length}
 use borrow.Author.Needs.{needs}

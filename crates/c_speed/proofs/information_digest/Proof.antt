@@ -1,4 +1,4 @@
--- `c_speed::information_digest` is safe and ends. Assumes nothing.
+-- `c_speed::information_digest` is safe and ends.
 use Prim.Native.Nat.{_-_, _≤_}
 use borrow.Author.Needs.{needs}
 use Rattle.c_speed.proofs.information_digest.Statement.{statement}

@@ -1,5 +1,4 @@
 -- `crc::continued` meets its contract: what the register makes of the bytes to come is what it made of all of them at first.
--- Assumes nothing.
 use mathlib.Core.Path.{_≡_, _∙_, ap, ap₂, sym}
 use Prim.Native.Nat.{ℕ, _≤_, _-_}
 use lib.ListN.{length, drop}

@@ -1,5 +1,4 @@
 -- `crc::flit_right_with` meets its contract: the two tests are that the flit is inside, and the part that is lent is 64 bytes long.
--- Assumes nothing.
 use mathlib.Core.Path.{_≡_, _∙_, ap, sym}
 use mathlib.Core.Bool.{Bool, _&&_}
 use Prim.Native.Nat.{ℕ, _+_, _-_}

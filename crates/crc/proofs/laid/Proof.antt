@@ -1,5 +1,4 @@
 -- `crc::laid` meets its contract: the constant is the table, entry for entry, which antt computes here.
--- Assumes nothing.
 use mathlib.Core.Path.{refl}
 use Rattle.crc.specs.Register.{table}
 use Rattle.crc.proofs.laid.Statement.{statement}

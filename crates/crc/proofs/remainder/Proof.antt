@@ -1,5 +1,4 @@
 -- `crc::remainder` meets its contract: a remainder that begins at 0 is the unit's.
--- Assumes nothing.
 use mathlib.Core.Path.{_∙_}
 use borrow.Author.Needs.{needs}
 use Rattle.crc.proofs.Bytes.{continued-remainder}

@@ -1,5 +1,4 @@
 -- `crc::right` meets its contract: the test's answer, which the polynomial's division decides.
--- Assumes nothing.
 use mathlib.Core.Path.{_∙_, sym}
 use borrow.Author.Needs.{needs}
 use Rattle.crc.proofs.Divides.{right-Right}

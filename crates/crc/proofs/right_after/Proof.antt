@@ -1,5 +1,4 @@
 -- `crc::right_after` meets its contract: the remainder of one part, continued over the other, is that of both in a row.
--- Assumes nothing.
 use mathlib.Core.Path.{_∙_, ap, sym}
 use mathlib.Core.List.{_++_}
 use Prim.Native.Nat.{ℕ}

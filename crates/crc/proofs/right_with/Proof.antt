@@ -1,5 +1,4 @@
 -- `crc::right_with` meets its contract: a unit is right exactly when its remainder is 0.
--- Assumes nothing.
 use mathlib.Core.Path.{_∙_, ap}
 use Prim.Native.Nat.{ℕ}
 use lib.Dec.{eqb}

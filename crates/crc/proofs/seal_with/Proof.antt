@@ -1,5 +1,4 @@
 -- `crc::seal_with` meets its contract: the check is the remainder of the unit with zeros in its place, and takes their place.
--- Assumes nothing.
 use mathlib.Core.Path.{_≡_, _∙_, ap, ap₂, sym}
 use mathlib.Core.List.{List}
 use Prim.Native.Nat.{ℕ, _≤_}

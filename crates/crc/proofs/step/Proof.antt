@@ -1,5 +1,4 @@
 -- `crc::step` meets its contract: eight places of a register are its high part, and the table's entry for its low byte.
--- Assumes nothing.
 use mathlib.Core.Path.{_≡_, _∙_, ap, ap₂, sym}
 use mathlib.Core.List.{List}
 use Prim.Native.Nat.{ℕ, _*_, _/_, _%_, _^_, _<_}

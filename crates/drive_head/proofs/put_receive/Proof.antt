@@ -1,4 +1,4 @@
--- `drive_head::put_receive` meets its contract: three texts, one after the other. Assumes nothing.
+-- `drive_head::put_receive` meets its contract: three texts, one after the other.
 use mathlib.Core.List.{[], _∷_}
 use mathlib.Core.Path.{ap}
 use native.Mathlib.Omega.{arith}

@@ -1,4 +1,4 @@
--- `drive_head::put_send` meets its contract: three texts, one after the other. Assumes nothing.
+-- `drive_head::put_send` meets its contract: three texts, one after the other.
 use mathlib.Core.List.{[], _∷_}
 use mathlib.Core.Path.{ap, _∙_}
 use Prim.Native.Nat.{ℕ, _*_, _-_}

@@ -1,4 +1,4 @@
--- `drive_head::put_spill` meets its contract. Assumes nothing.
+-- `drive_head::put_spill` meets its contract.
 use mathlib.Core.Path.{sym, _∙_}
 use Rattle.drive_head.proofs.Laws.{puts-no-spill, puts-spill}
 use borrow.Author.Needs.{needs}

@@ -1,4 +1,4 @@
--- `drive_head::untouched` meets its contract: the bytes passed are 165. Assumes nothing.
+-- `drive_head::untouched` meets its contract: the bytes passed are 165.
 use mathlib.Core.Path.{_≡_, refl, sym, _∙_}
 use Prim.Native.Nat.{_-_, _≤_}
 use native.Mathlib.Omega.{arith}

@@ -1,4 +1,4 @@
--- `drive_name::most` meets its contract, by the fields of each arm. Assumes nothing.
+-- `drive_name::most` meets its contract, by the fields of each arm.
 use mathlib.Core.List.{List, [], _∷_}
 use mathlib.Core.Path.{_≡_, refl, ap, sym}
 use Prim.Native.Nat.{ℕ}

@@ -1,4 +1,4 @@
--- `drive_name::place` meets its contract: no word before byte `at` is the token. Assumes nothing.
+-- `drive_name::place` meets its contract: no word before byte `at` is the token.
 use mathlib.Core.Path.{_≡_, sym, _∙_}
 use Prim.Native.Nat.{_+_, _-_, _≤_, _<_}
 use native.Mathlib.Nat.{zero-add}

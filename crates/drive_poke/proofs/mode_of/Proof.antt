@@ -1,4 +1,4 @@
--- `drive_poke::mode_of` meets its contract. Assumes nothing.
+-- `drive_poke::mode_of` meets its contract.
 use mathlib.Core.Bool.{true, false}
 use mathlib.Core.Path.{_≡_}
 use Prim.Native.Nat.{ℕ}

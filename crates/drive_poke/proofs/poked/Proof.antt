@@ -1,4 +1,4 @@
--- `drive_poke::poked` meets its contract, field by field. Assumes nothing.
+-- `drive_poke::poked` meets its contract, field by field.
 use mathlib.Core.List.{List}
 use mathlib.Core.Path.{_≡_, refl, ap, sym, _∙_}
 use Prim.Native.Nat.{ℕ, _≤_}

@@ -1,4 +1,4 @@
--- `drive_poke::with_count` meets its contract, key by key. Assumes nothing.
+-- `drive_poke::with_count` meets its contract, key by key.
 use mathlib.Core.Path.{_≡_, sym, ap}
 use Prim.Native.Nat.{ℕ}
 use Rattle.drive_name.specs.declared.Key.{Key}

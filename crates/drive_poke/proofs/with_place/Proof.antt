@@ -1,4 +1,4 @@
--- `drive_poke::with_place` meets its contract. Assumes nothing.
+-- `drive_poke::with_place` meets its contract.
 use mathlib.Core.Path.{sym}
 use native.Mathlib.Omega.{arith}
 use lib.Seq.{set-out}

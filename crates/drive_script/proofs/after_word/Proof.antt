@@ -1,4 +1,4 @@
--- `drive_script::after_word` meets its contract, by the end that is named. Assumes nothing.
+-- `drive_script::after_word` meets its contract, by the end that is named.
 use mathlib.Core.List.{List, [], _∷_}
 use mathlib.Core.Path.{_≡_, ap, sym, _∙_}
 use Prim.Native.Nat.{ℕ, _+_}

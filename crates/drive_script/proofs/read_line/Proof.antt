@@ -1,4 +1,4 @@
--- `drive_script::read_line` meets its contract: a line of one token is bad. Assumes nothing.
+-- `drive_script::read_line` meets its contract: a line of one token is bad.
 use mathlib.Core.List.{List, [], _∷_}
 use mathlib.Core.Path.{ap, sym, _∙_}
 use Prim.Native.Nat.{ℕ, _+_, _-_}

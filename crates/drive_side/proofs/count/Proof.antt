@@ -1,4 +1,4 @@
--- `drive_side::count` meets its contract. Assumes nothing.
+-- `drive_side::count` meets its contract.
 use mathlib.Core.Path.{ap, _∙_}
 use Rattle.ticket.specs.declared.Ticket.{Ticket}
 use Rattle.drive_side.specs.Settings.{after-call, side-counted}

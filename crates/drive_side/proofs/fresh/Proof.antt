@@ -1,4 +1,4 @@
--- `drive_side::fresh` meets its contract. Assumes nothing.
+-- `drive_side::fresh` meets its contract.
 use mathlib.Core.Path.{ap}
 use Rattle.ticket.specs.declared.Ticket.{Ticket}
 use Rattle.drive_side.specs.declared.Side.{Side}

@@ -1,4 +1,4 @@
--- `drive_side::lend` meets its contract. Assumes nothing.
+-- `drive_side::lend` meets its contract.
 use mathlib.Core.Path.{refl}
 use Rattle.drive_side.specs.Settings.{side-lent}
 use Rattle.drive_side.proofs.lend.Statement.{statement}

@@ -1,4 +1,4 @@
--- `drive_side::poke` meets its contract. Assumes nothing.
+-- `drive_side::poke` meets its contract.
 use mathlib.Core.Path.{ap, _∙_}
 use Rattle.end_state.specs.declared.End.{End}
 use Rattle.drive_side.specs.Settings.{after-call, side-poked}

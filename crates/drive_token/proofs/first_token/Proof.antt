@@ -1,4 +1,4 @@
--- `drive_token::first_token` meets its contract: the first i bytes have no space. Assumes nothing.
+-- `drive_token::first_token` meets its contract: the first i bytes have no space.
 use mathlib.Core.Path.{_≡_, sym, _∙_}
 use Prim.Native.Nat.{_-_, _<_, _≤_}
 use native.Mathlib.Omega.{arith}

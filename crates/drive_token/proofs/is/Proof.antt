@@ -1,4 +1,4 @@
--- `drive_token::is` meets its contract: the test decides. Assumes nothing.
+-- `drive_token::is` meets its contract: the test decides.
 use Rattle.drive_token.proofs.Cuts.{same-decides}
 use borrow.Author.Needs.{needs}
 use Rattle.drive_token.proofs.is.Statement.{statement}

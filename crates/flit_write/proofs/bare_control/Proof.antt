@@ -1,4 +1,4 @@
--- `flit_write::bare_control` meets its contract: the content is the one that was read, but for its upper bits. Assumes nothing.
+-- `flit_write::bare_control` meets its contract: the content is the one that was read, but for its upper bits.
 use Prim.Native.Nat.{ℕ, _%_}
 use Rattle.flit_write.specs.Flits.{bare-control, with-content}
 use mathlib.Core.Path.{ap, _∙_}

@@ -1,4 +1,4 @@
--- `flit_write::control_told` meets its contract: the content is the sum of what it is to hold. Assumes nothing.
+-- `flit_write::control_told` meets its contract: the content is the sum of what it is to hold.
 use Rattle.flit_write.specs.Flits.{control-told, with-content}
 use mathlib.Core.Path.{ap, _∙_}
 use Rattle.flit_read.specs.Fields.{data-stalled}

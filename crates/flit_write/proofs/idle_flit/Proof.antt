@@ -1,4 +1,4 @@
--- `flit_write::idle_flit` meets its contract: the content is the sum of its fields. Assumes nothing.
+-- `flit_write::idle_flit` meets its contract: the content is the sum of its fields.
 use mathlib.Core.Path.{ap, _∙_}
 use mathlib.Core.List.{_++_}
 use Prim.Native.Nat.{ℕ}

@@ -1,4 +1,4 @@
--- `flit_write::replay_flit` meets its contract: four numbers, one after the other, are the sum of the fields. Assumes nothing.
+-- `flit_write::replay_flit` meets its contract: four numbers, one after the other, are the sum of the fields.
 use mathlib.Core.Path.{_≡_, sym, ap, ap₂, _∙_}
 use mathlib.Core.List.{List, _++_, append-assoc}
 use Prim.Native.Nat.{ℕ, _+_, _*_}

@@ -1,4 +1,4 @@
--- `flit_write::with_content` meets its contract: the flit ends after the eight bytes. Assumes nothing.
+-- `flit_write::with_content` meets its contract: the flit ends after the eight bytes.
 use native.Mathlib.Omega.{arith}
 use mathlib.Core.Path.{_∙_}
 use Rattle.flit_write.proofs.Written.{last-bytes}

@@ -1,5 +1,5 @@
 -- `flit_write::with_number` meets its contract: the bytes written, those of what is left of the number, and the
--- rest of the flit are together the flit asked for. Assumes nothing.
+-- rest of the flit are together the flit asked for.
 use lib.ListN.{length, take, drop, set, length-set, take-append-drop}
 use lib.Seq.{take-suc-set, drop-set-lt}
 use native.Mathlib.Numerals.{unary-clauses}

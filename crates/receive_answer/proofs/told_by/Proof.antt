@@ -1,4 +1,4 @@
--- `receive_answer::told_by` meets its contract: three answers tell a number, and the others none. Assumes nothing.
+-- `receive_answer::told_by` meets its contract: three answers tell a number, and the others none.
 use mathlib.Core.List.{List, [], _∷_}
 use mathlib.Core.Path.{_≡_, refl, sym, ap, _∙_}
 use Prim.Native.Nat.{ℕ}
@@ -7,7 +7,6 @@ use denote.Enum.Declared.{tagOf}
 use borrow.Author.Needs.{needs}
 use Rattle.receive_answer.specs.declared.Answer.{Answer}
 use Rattle.receive_answer.specs.declared.Answer.the-variants as answer
-use Rattle.receive_answer.specs.declared.Told.{Told}
 use Rattle.receive_answer.specs.Answers.{tells-none, tells}
 use Rattle.receive_answer.proofs.Answer.{the-type}
 use Rattle.receive_answer.proofs.told_by.Statement.{statement}

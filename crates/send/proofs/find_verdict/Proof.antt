@@ -1,5 +1,4 @@
 -- `send::find_verdict` meets its contract: at each `return` the tests that led there say which case of `verdict` holds.
--- Assumes nothing.
 use mathlib.Core.Bool.{true}
 use mathlib.Core.Path.{_≡_, sym, _∙_}
 use borrow.Author.Needs.{needs}

@@ -1,5 +1,4 @@
 -- `send::send_with` meets its contract: what is refused changes nothing, and what is admitted writes the burst and moves the end.
--- Assumes nothing.
 use mathlib.Core.List.{List, _++_}
 use mathlib.Core.Path.{_≡_, sym, ap, ap₂, _∙_}
 use Prim.Native.Nat.{ℕ}

@@ -1,4 +1,4 @@
--- `send_burst::write_burst` meets its contract: in each case the output begins with the burst. Assumes nothing.
+-- `send_burst::write_burst` meets its contract: in each case the output begins with the burst.
 use mathlib.Core.Bool.{false}
 use mathlib.Core.List.{_++_}
 use mathlib.Core.Path.{refl, sym, ap, ap₂, _∙_}

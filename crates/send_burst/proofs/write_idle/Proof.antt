@@ -1,4 +1,4 @@
--- `send_burst::write_idle` meets its contract. Assumes nothing.
+-- `send_burst::write_idle` meets its contract.
 use mathlib.Core.List.{List, _++_}
 use mathlib.Core.Path.{ap, _∙_}
 use Prim.Native.Nat.{ℕ}

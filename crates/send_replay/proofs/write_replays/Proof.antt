@@ -1,4 +1,4 @@
--- `send_replay::write_replays` meets its contract: one flit, written twice. Assumes nothing.
+-- `send_replay::write_replays` meets its contract: one flit, written twice.
 use mathlib.Core.Bool.{Bool}
 use mathlib.Core.List.{List, _++_}
 use mathlib.Core.Path.{_≡_, refl, ap, ap₂, _∙_}

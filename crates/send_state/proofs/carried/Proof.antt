@@ -1,4 +1,4 @@
--- `send_state::carried` meets its contract. Assumes nothing.
+-- `send_state::carried` meets its contract.
 use mathlib.Core.Path.{sym}
 use native.Mathlib.Omega.{arith}
 use Rattle.send_state.proofs.Cases.{carried-all, carried-most}

@@ -1,4 +1,4 @@
--- `send_state::fallen` meets its contract. Assumes nothing.
+-- `send_state::fallen` meets its contract.
 use mathlib.Core.Path.{sym}
 use borrow.Author.Needs.{needs}
 use Rattle.send_state.proofs.Cases.{fallen-none, fallen-some}

@@ -1,4 +1,4 @@
--- `send_state::fallen_past` meets its contract: untold falls twice where the unit has data. Assumes nothing.
+-- `send_state::fallen_past` meets its contract: untold falls twice where the unit has data.
 use mathlib.Core.Path.{sym, ap, _∙_}
 use Prim.Native.Nat.{ℕ}
 use borrow.Author.Needs.{needs}

@@ -1,4 +1,4 @@
--- `send_state::moved` meets its contract, case by case. Assumes nothing.
+-- `send_state::moved` meets its contract, case by case.
 use mathlib.Core.Path.{sym, ap, ap₂, _∙_}
 use Prim.Native.Nat.{ℕ, _<_, _≤_}
 use native.Mathlib.Omega.{arith}

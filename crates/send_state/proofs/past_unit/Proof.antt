@@ -1,4 +1,4 @@
--- `send_state::past_unit` meets its contract: sent is the further of the two. Assumes nothing.
+-- `send_state::past_unit` meets its contract: sent is the further of the two.
 use mathlib.Core.Path.{sym, ap₂, _∙_}
 use Prim.Native.Nat.{ℕ, _+_, _<_, _≤_}
 use native.Mathlib.Omega.{arith}

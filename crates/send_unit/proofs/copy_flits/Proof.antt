@@ -1,5 +1,4 @@
 -- `send_unit::copy_flits` meets its contract. The loop's invariant: the first n flits are written, and the bytes past them stay.
--- Assumes nothing.
 use mathlib.Core.List.{List, _++_}
 use mathlib.Core.Path.{_≡_, refl, sym, ap, _∙_}
 use Prim.Native.Nat.{ℕ, _+_, _*_, _-_, _≤_}

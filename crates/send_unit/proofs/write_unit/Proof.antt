@@ -1,4 +1,4 @@
--- `send_unit::write_unit` meets its contract: the data flits, the control flit after them, and the check over both. Assumes nothing.
+-- `send_unit::write_unit` meets its contract: the data flits, the control flit after them, and the check over both.
 use mathlib.Core.List.{List, _++_}
 use mathlib.Core.Path.{_≡_, refl, ap, ap₂, _∙_}
 use Prim.Native.Nat.{ℕ, _+_, _*_, _-_}

@@ -1,5 +1,4 @@
 -- `text::put_decimal` meets its contract: the one digit, or the digits of n / 10 and then the last. The measure is the number.
--- Assumes nothing.
 use native.Mathlib.Omega.{arith}
 use mathlib.Core.Path.{_∙_}
 use lib.ListN.{length-set}

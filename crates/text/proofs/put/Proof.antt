@@ -1,4 +1,4 @@
--- `text::put` meets its contract: the first i bytes of the text are written. Assumes nothing.
+-- `text::put` meets its contract: the first i bytes of the text are written.
 use lib.ListN.{length, take, length-set}
 use lib.Seq.{take-all}
 use native.Mathlib.Numerals.{add-one}

@@ -1,4 +1,4 @@
--- `text::put_field` meets its contract: the key, and the number after it. Assumes nothing.
+-- `text::put_field` meets its contract: the key, and the number after it.
 use Rattle.text.proofs.Laws.{puts-more}
 use borrow.Author.Needs.{needs}
 use Rattle.text.proofs.put_field.Statement.{statement}

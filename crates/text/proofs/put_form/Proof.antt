@@ -1,4 +1,4 @@
--- `text::put_form` meets its contract: the first i bytes of the form are written, with the first numbers. Assumes nothing.
+-- `text::put_form` meets its contract: the first i bytes of the form are written, with the first numbers.
 use Prim.Native.Nat.{_+_, _-_, _*_, _≤_}
 use mathlib.Core.Logic.{⊎-elim}
 use native.Mathlib.Omega.{arith}

@@ -1,4 +1,4 @@
--- `text_hex::adler` meets its contract: the sums so far, reduced or not, and the bytes left give the checksum of all. Assumes nothing.
+-- `text_hex::adler` meets its contract: the sums so far, reduced or not, and the bytes left give the checksum of all.
 use Prim.Native.Nat.{_-_, _≤_, _<_}
 use native.Mathlib.Omega.{arith}
 use mathlib.Core.Path.{_≡_, refl}

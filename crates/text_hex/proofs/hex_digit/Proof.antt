@@ -1,4 +1,4 @@
--- `text_hex::hex_digit` meets its contract. Assumes nothing.
+-- `text_hex::hex_digit` meets its contract.
 use mathlib.Core.Path.{refl}
 use native.Mathlib.Omega.{arith}
 use borrow.Author.Tests.{lt-ltb, le-ltb}

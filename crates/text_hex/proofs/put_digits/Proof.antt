@@ -1,4 +1,4 @@
--- `text_hex::put_digits` meets its contract: the digits of the first i bytes are written. Assumes nothing.
+-- `text_hex::put_digits` meets its contract: the digits of the first i bytes are written.
 use mathlib.Core.Path.{_≡_, refl, sym, ap}
 use Prim.Native.Nat.{_+_, _-_, _*_, _≤_}
 use native.Mathlib.Omega.{arith}

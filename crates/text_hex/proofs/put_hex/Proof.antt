@@ -1,4 +1,4 @@
--- `text_hex::put_hex` meets its contract. Assumes nothing.
+-- `text_hex::put_hex` meets its contract.
 use native.Mathlib.Omega.{arith}
 use Rattle.text.proofs.Laws.{puts-as}
 use Rattle.text_hex.proofs.Laws.{hex-none, hex-some}

@@ -1,4 +1,4 @@
--- `text_state::put_state` meets its contract: numbers, the mode's word, and the rest. Assumes nothing.
+-- `text_state::put_state` meets its contract: numbers, the mode's word, and the rest.
 use native.Mathlib.Omega.{arith}
 use Rattle.text.proofs.Laws.{puts-more, puts-as}
 use Rattle.text_word.proofs.Laws.{mode-short}

@@ -1,4 +1,4 @@
--- `text_state::put_ticket` meets its contract: its line as one form. Assumes nothing.
+-- `text_state::put_ticket` meets its contract: its line as one form.
 use Rattle.text.proofs.Laws.{puts-as}
 use Rattle.text_state.proofs.Laws.{ticket-is}
 use borrow.Author.Needs.{needs}

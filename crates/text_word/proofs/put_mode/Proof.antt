@@ -1,4 +1,4 @@
--- `text_word::put_mode` meets its contract. Assumes nothing.
+-- `text_word::put_mode` meets its contract.
 use native.Mathlib.Omega.{arith}
 use Rattle.text.proofs.Laws.{puts-as}
 use Rattle.text_word.proofs.Laws.{mode-short, spelt-long}

@@ -1,4 +1,4 @@
--- `text_word::put_word` meets its contract. Assumes nothing.
+-- `text_word::put_word` meets its contract.
 use native.Mathlib.Omega.{arith}
 use lib.ListN.{length-take}
 use borrow.Author.Needs.{needs}

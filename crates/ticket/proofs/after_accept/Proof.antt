@@ -1,4 +1,4 @@
--- `ticket::after_accept` meets its contract. Assumes nothing.
+-- `ticket::after_accept` meets its contract.
 use mathlib.Core.Path.{ap}
 use native.Mathlib.Omega.{arith}
 use Rattle.end_state.specs.declared.Verdict.{Verdict}

@@ -1,4 +1,4 @@
--- `ticket::after_receive` meets its contract, answer by answer. Assumes nothing.
+-- `ticket::after_receive` meets its contract, answer by answer.
 use mathlib.Core.Path.{_≡_, ap}
 use Prim.Native.Nat.{_+_}
 use native.Mathlib.Omega.{arith}

@@ -1,4 +1,4 @@
--- `ticket::put_counts` meets its contract. Assumes nothing.
+-- `ticket::put_counts` meets its contract.
 use borrow.Author.Needs.{needs}
 use Rattle.ticket.proofs.put_counts.Statement.{statement}
 use Rattle.ticket.proofs.put_counts.Tie as tie

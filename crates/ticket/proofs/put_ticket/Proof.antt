@@ -1,4 +1,4 @@
--- `ticket::put_ticket` meets its contract: its text as a form. Assumes nothing.
+-- `ticket::put_ticket` meets its contract: its text as a form.
 use Rattle.text.proofs.Laws.{puts-as}
 use Rattle.ticket.proofs.Laws.{text-is}
 use borrow.Author.Needs.{needs}

@@ -1,4 +1,4 @@
--- `ticket::write_ticket` meets its contract: the text is made aside, and put in place where there is room. Assumes nothing.
+-- `ticket::write_ticket` meets its contract: the text is made aside, and put in place where there is room.
 use mathlib.Core.Path.{_≡_, sym, ap, _∙_}
 use mathlib.Core.List.{List}
 use Prim.Native.Nat.{ℕ, _≤_, _<_}

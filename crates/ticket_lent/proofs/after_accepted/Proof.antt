@@ -1,4 +1,4 @@
--- `ticket_lent::after_accepted` meets its contract. Assumes nothing.
+-- `ticket_lent::after_accepted` meets its contract.
 use mathlib.Core.Path.{_≡_, ap, _∙_}
 use Prim.Native.Nat.{ℕ, _-_}
 use native.Mathlib.Omega.{arith}

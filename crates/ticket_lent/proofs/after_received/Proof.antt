@@ -1,4 +1,4 @@
--- `ticket_lent::after_received` meets its contract. Assumes nothing.
+-- `ticket_lent::after_received` meets its contract.
 use borrow.Author.Needs.{needs}
 use Rattle.ticket_lent.proofs.after_received.Statement.{statement}
 use Rattle.ticket_lent.proofs.after_received.Tie as tie

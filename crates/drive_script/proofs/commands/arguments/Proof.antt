@@ -1,4 +1,4 @@
--- `drive_script::commands::arguments` meets its contract: it has one argument or more. Assumes nothing.
+-- `drive_script::commands::arguments` meets its contract: it has one argument or more.
 use mathlib.Core.Path.{ap, sym, _∙_}
 use Prim.Native.Nat.{_+_, _-_}
 use native.Mathlib.Omega.{arith}

@@ -1,4 +1,4 @@
--- `drive_script::commands::count` meets its contract, by the key and the test. Assumes nothing.
+-- `drive_script::commands::count` meets its contract, by the key and the test.
 use mathlib.Core.Path.{sym, _∙_}
 use Rattle.end_state.proofs.Tests.{cond-true}
 use Rattle.drive_token.specs.Tokens.{is-number, value}

@@ -1,4 +1,4 @@
--- `drive_script::commands::fill` meets its contract, by the tests. Assumes nothing.
+-- `drive_script::commands::fill` meets its contract, by the tests.
 use mathlib.Core.Bool.{true, false}
 use mathlib.Core.List.{List}
 use mathlib.Core.Path.{_≡_, ap, sym, _∙_}

@@ -1,4 +1,4 @@
--- `drive_script::commands::last_arguments` meets its contract: it has three arguments, or too many. Assumes nothing.
+-- `drive_script::commands::last_arguments` meets its contract: it has three arguments, or too many.
 use Prim.Native.Nat.{_+_}
 use lib.ListN.{take, drop}
 use Rattle.drive_token.proofs.Cuts.{tokens-more, tokens-one}

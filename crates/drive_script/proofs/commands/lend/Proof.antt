@@ -1,4 +1,4 @@
--- `drive_script::commands::lend` meets its contract, by the test. Assumes nothing.
+-- `drive_script::commands::lend` meets its contract, by the test.
 use Rattle.drive_script.proofs.Lines.{lend-told, lend-bad}
 use borrow.Author.Needs.{needs}
 use Rattle.drive_script.proofs.commands.lend.Statement.{statement}

@@ -1,4 +1,4 @@
--- `drive_script::commands::more_arguments` meets its contract: it has two arguments or more. Assumes nothing.
+-- `drive_script::commands::more_arguments` meets its contract: it has two arguments or more.
 use mathlib.Core.List.{List, _∷_}
 use mathlib.Core.Path.{ap, sym, _∙_}
 use Prim.Native.Nat.{ℕ, _+_, _-_}

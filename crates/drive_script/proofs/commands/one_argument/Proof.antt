@@ -1,4 +1,4 @@
--- `drive_script::commands::one_argument` meets its contract, word by word. Assumes nothing.
+-- `drive_script::commands::one_argument` meets its contract, word by word.
 use mathlib.Core.Bool.{cond}
 use mathlib.Core.List.{List, [], _∷_}
 use mathlib.Core.Path.{ap, sym, _∙_}

@@ -1,4 +1,4 @@
--- `drive_script::commands::poke` meets its contract, by the field and the test. Assumes nothing.
+-- `drive_script::commands::poke` meets its contract, by the field and the test.
 use mathlib.Core.Path.{ap, sym, _∙_}
 use Prim.Native.Nat.{ℕ}
 use Rattle.end_state.proofs.Tests.{cond-true}

@@ -1,4 +1,4 @@
--- `drive_script::commands::send` meets its contract, by the test. Assumes nothing.
+-- `drive_script::commands::send` meets its contract, by the test.
 use Rattle.drive_script.proofs.Lines.{send-told, send-bad}
 use borrow.Author.Needs.{needs}
 use Rattle.drive_script.proofs.commands.send.Statement.{statement}

@@ -1,4 +1,4 @@
--- `drive_script::commands::start` meets its contract, by the test. Assumes nothing.
+-- `drive_script::commands::start` meets its contract, by the test.
 use mathlib.Core.Path.{sym, _∙_}
 use Rattle.drive_script.proofs.Lines.{start-told, start-bad}
 use borrow.Author.Needs.{needs}

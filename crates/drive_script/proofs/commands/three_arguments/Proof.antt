@@ -1,4 +1,4 @@
--- `drive_script::commands::three_arguments` meets its contract, by the test. Assumes nothing.
+-- `drive_script::commands::three_arguments` meets its contract, by the test.
 use mathlib.Core.Path.{sym, _∙_}
 use Rattle.drive_script.specs.Script.{command-of}
 use borrow.Author.Needs.{needs}

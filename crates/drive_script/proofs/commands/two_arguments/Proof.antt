@@ -1,4 +1,4 @@
--- `drive_script::commands::two_arguments` meets its contract, word by word. Assumes nothing.
+-- `drive_script::commands::two_arguments` meets its contract, word by word.
 use mathlib.Core.List.{[], _∷_}
 use mathlib.Core.Path.{sym, _∙_}
 use Rattle.drive_name.specs.Names.{field-of, key-of}

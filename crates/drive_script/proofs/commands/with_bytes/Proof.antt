@@ -1,4 +1,4 @@
--- `drive_script::commands::with_bytes` meets its contract, by the tests. Assumes nothing.
+-- `drive_script::commands::with_bytes` meets its contract, by the tests.
 use mathlib.Core.Path.{sym, _∙_}
 use borrow.Author.Tests.{not-true, not-false}
 use Rattle.drive_script.proofs.Lines.{bytes-bad, bytes-accept, bytes-receive}

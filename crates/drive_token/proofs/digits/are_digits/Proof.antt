@@ -1,4 +1,4 @@
--- `drive_token::digits::are_digits` meets its contract: the first i are digits below the base. Assumes nothing.
+-- `drive_token::digits::are_digits` meets its contract: the first i are digits below the base.
 use borrow.Author.Needs.{needs}
 use mathlib.Core.Bool.{true, false}
 use mathlib.Core.Path.{_≡_, refl, ap, sym, _∙_}

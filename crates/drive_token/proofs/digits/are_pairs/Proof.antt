@@ -1,4 +1,4 @@
--- `drive_token::digits::are_pairs` meets its contract, test by test. Assumes nothing.
+-- `drive_token::digits::are_pairs` meets its contract, test by test.
 use mathlib.Core.Bool.{Bool, _&&_}
 use mathlib.Core.Path.{ap, sym, _∙_}
 use Prim.Native.Nat.{_%_}

@@ -1,4 +1,4 @@
--- `drive_token::digits::nibble` meets its contract, by the tests. Assumes nothing.
+-- `drive_token::digits::nibble` meets its contract, by the tests.
 use mathlib.Core.Bool.{true, false, _&&_}
 use mathlib.Core.Path.{_≡_}
 use Prim.Native.Nat.{ℕ, _-_}

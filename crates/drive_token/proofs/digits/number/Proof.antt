@@ -1,4 +1,4 @@
--- `drive_token::digits::number` meets its contract: the rest of the digits goes on with the number so far. Assumes nothing.
+-- `drive_token::digits::number` meets its contract: the rest of the digits goes on with the number so far.
 use borrow.Author.Needs.{needs}
 use mathlib.Core.Bool.{true, false, _&&_}
 use mathlib.Core.Path.{_≡_, refl, ap, sym, _∙_}

@@ -1,4 +1,4 @@
--- `drive_token::digits::offset` meets its contract: a number as it is, more digits as the largest. Assumes nothing.
+-- `drive_token::digits::offset` meets its contract: a number as it is, more digits as the largest.
 use mathlib.Core.Bool.{Bool, true, false, _&&_}
 use mathlib.Core.Path.{_≡_, ap, sym, _∙_}
 use lib.Dec.{ltb}

@@ -1,4 +1,4 @@
--- `drive_token::digits::put_pairs` meets its contract: the first i bytes are written. Assumes nothing.
+-- `drive_token::digits::put_pairs` meets its contract: the first i bytes are written.
 use borrow.Author.Needs.{needs}
 use mathlib.Core.Path.{_≡_, refl, ap, sym, _∙_}
 use Prim.Native.Nat.{ℕ, _+_, _-_, _*_, _≤_}

@@ -1,4 +1,4 @@
--- `drive_token::digits::take_hex` meets its contract, by the tests. Assumes nothing.
+-- `drive_token::digits::take_hex` meets its contract, by the tests.
 use mathlib.Core.Bool.{true, false}
 use mathlib.Core.Path.{_≡_, sym, _∙_}
 use Rattle.drive_token.specs.Tokens.{is-bytes}

@@ -1,4 +1,4 @@
--- `drive_token::digits::with_digit` meets its contract: a number past the most is seen before it is made. Assumes nothing.
+-- `drive_token::digits::with_digit` meets its contract: a number past the most is seen before it is made.
 use mathlib.Core.Bool.{true, false, _&&_}
 use mathlib.Core.Path.{_≡_}
 use Prim.Native.Nat.{ℕ, _+_, _-_, _*_, _≤_, _<_}

@@ -1,4 +1,4 @@
--- `end_state::ring::copy_flit` meets its contract: the part taken is the flit, and the part put is its place. Assumes nothing.
+-- `end_state::ring::copy_flit` meets its contract: the part taken is the flit, and the part put is its place.
 use mathlib.Core.Path.{refl, ap, _∙_}
 use Prim.Native.Nat.{_+_, _*_, _-_}
 use native.Mathlib.Omega.{arith}

@@ -1,4 +1,4 @@
--- `end_state::walk::cut_units` meets its contract: the walk to the cursor, and on from there. Assumes nothing.
+-- `end_state::walk::cut_units` meets its contract: the walk to the cursor, and on from there.
 use native.Mathlib.Omega.{arith}
 use borrow.Author.Needs.{needs}
 use Rattle.end_state.specs.Ring.{walk-over}

@@ -1,4 +1,4 @@
--- `end_state::walk::walk_on` meets its contract: from wherever the walk began, it stands at flit n. Assumes nothing.
+-- `end_state::walk::walk_on` meets its contract: from wherever the walk began, it stands at flit n.
 use mathlib.Core.Bool.{_&&_}
 use mathlib.Core.Logic.{⊎-elim}
 use mathlib.Core.Path.{_≡_, refl, sym, ap, _∙_}

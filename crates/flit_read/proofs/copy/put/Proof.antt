@@ -1,4 +1,4 @@
--- `flit_read::copy::put` meets its contract: the first i bytes of the part are those of the flit. Assumes nothing.
+-- `flit_read::copy::put` meets its contract: the first i bytes of the part are those of the flit.
 use lib.Seq.{take-suc-set, take-suc, take-all}
 use lib.ListN.{length, take, getD, length-set}
 use native.Mathlib.Numerals.{add-one}

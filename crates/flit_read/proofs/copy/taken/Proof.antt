@@ -1,4 +1,4 @@
--- `flit_read::copy::taken` meets its contract: the first i bytes of the flit are those of the part. Assumes nothing.
+-- `flit_read::copy::taken` meets its contract: the first i bytes of the flit are those of the part.
 use lib.Seq.{take-suc-set, take-suc, take-all}
 use lib.ListN.{length, take, getD, length-set}
 use native.Mathlib.Numerals.{add-one}

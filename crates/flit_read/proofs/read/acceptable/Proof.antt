@@ -1,4 +1,4 @@
--- `flit_read::read::acceptable` meets its contract: bits 63:18 are all of the content above bit 17. Assumes nothing.
+-- `flit_read::read::acceptable` meets its contract: bits 63:18 are all of the content above bit 17.
 use native.Mathlib.Omega.{arith}
 use Rattle.flit_read.specs.Fields.{content, acceptable}
 use lib.Dec.{leb, eqb}

@@ -1,4 +1,4 @@
--- `flit_read::read::content` meets its contract: the flit ends after the eight bytes. Assumes nothing.
+-- `flit_read::read::content` meets its contract: the flit ends after the eight bytes.
 use native.Mathlib.Omega.{arith}
 use lib.Seq.{take-all}
 use lib.ListN.{drop, length-drop}

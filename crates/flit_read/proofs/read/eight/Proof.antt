@@ -1,4 +1,4 @@
--- `flit_read::read::eight` meets its contract: eight bytes and their number, four and four. Assumes nothing.
+-- `flit_read::read::eight` meets its contract: eight bytes and their number, four and four.
 use native.Mathlib.Omega.{arith}
 use Rattle.flit_read.proofs.Laws.{number-eight}
 use borrow.Author.Needs.{needs}

@@ -1,5 +1,5 @@
 -- `flit_read::read::fields` meets its contract: each field of a DL content is a quotient and a rest of it,
--- and those of a replay flit from bit 96 on are fields of its DL content. Assumes nothing.
+-- and those of a replay flit from bit 96 on are fields of its DL content.
 use mathlib.Core.Path.{sym, ap, _∙_}
 use Prim.Native.Nat.{ℕ}
 use lib.Dec.{eqb}

@@ -1,4 +1,4 @@
--- `flit_read::read::information` meets its contract: the eight bytes are the lowest 64 bits of the replay content. Assumes nothing.
+-- `flit_read::read::information` meets its contract: the eight bytes are the lowest 64 bits of the replay content.
 use native.Mathlib.Omega.{arith}
 use Rattle.flit_read.proofs.Laws.{number-part}
 use borrow.Author.Needs.{needs}

@@ -1,4 +1,4 @@
--- `flit_read::read::pair` meets its contract: two bytes and their number. Assumes nothing.
+-- `flit_read::read::pair` meets its contract: two bytes and their number.
 use Rattle.flit_read.specs.Bytes.{number}
 use native.Mathlib.Omega.{arith}
 use borrow.Author.Needs.{needs}

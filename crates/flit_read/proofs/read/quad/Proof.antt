@@ -1,4 +1,4 @@
--- `flit_read::read::quad` meets its contract: four bytes and their number, which is below 2 ^ 32. Assumes nothing.
+-- `flit_read::read::quad` meets its contract: four bytes and their number, which is below 2 ^ 32.
 use Rattle.flit_read.specs.Bytes.{number}
 use native.Mathlib.Omega.{arith}
 use borrow.Author.Needs.{needs}

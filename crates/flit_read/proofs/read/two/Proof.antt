@@ -1,4 +1,4 @@
--- `flit_read::read::two` meets its contract: two bytes and their number. Assumes nothing.
+-- `flit_read::read::two` meets its contract: two bytes and their number.
 use native.Mathlib.Omega.{arith}
 use Rattle.flit_read.proofs.Laws.{number-pair}
 use mathlib.Core.Path.{sym, _∙_}
