@@ -6,7 +6,7 @@ use native.Mathlib.Omega.{arith}
 use lib.ListN.{length, length-append}
 use Rattle.text.specs.Text.{ascii, decimal, written, key-value}
 use Rattle.text.proofs.Laws.{length-decimal}
-use Rattle.text_state.proofs.Laws.{state-short, ticket-short}
+use Rattle.drive_state.proofs.Laws.{state-short, ticket-short}
 use Rattle.drive_head.proofs.Laws.{send-head-short, receive-head-short}
 use Rattle.end_state.specs.Refusals.{previous-run}
 use Rattle.end_state.specs.declared.End.{End}

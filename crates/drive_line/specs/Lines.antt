@@ -5,7 +5,7 @@ use mathlib.Core.Path.{_≡_}
 use Prim.Native.Nat.{ℕ, _≤_}
 use lib.ListN.{length, take}
 use Rattle.text.specs.Text.{ascii, key-value, written, Puts}
-use Rattle.text_state.specs.Show.{state-text, ticket-text}
+use Rattle.drive_state.specs.Show.{state-text, ticket-text}
 use Rattle.drive_head.specs.Heads.{send-head, receive-head}
 use Rattle.end_state.specs.State.{verdict-number}
 use Rattle.drive_name.specs.declared.EndField.{EndField}

@@ -96,7 +96,7 @@ fn ticket(side: Side, out: &mut [u8], at: usize) -> Done
     ensures { λ r. ⌜ ((store hold : List ℕ) → Buffered side store hold → Leaves (record { kept = kept-in side store hold; line = ticket-line side }) (r .side) store hold (now (out .entry)) at (r .at) (now (out .exit))) ⌝ }
 {
     let counts = side.ticket;
-    let next = text_state::put_ticket(out, at, counts);
+    let next = drive_state::put_ticket(out, at, counts);
     Done {
         side: side,
         at: next,
@@ -251,7 +251,7 @@ fn put_side(out: &mut [u8], at: usize, side: Side, store: &[u8], hold: &[u8]) ->
 {
     let kept = side.kept;
     let held = End::HOLD;
-    let next = text_state::put_state(out, at, side.end, &store[0..kept], &hold[0..held]);
+    let next = drive_state::put_state(out, at, side.end, &store[0..kept], &hold[0..held]);
     Done {
         side: side,
         at: next,

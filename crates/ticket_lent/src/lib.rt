@@ -8,9 +8,7 @@ use ticket::Ticket;
 ghost use mathlib.Core.Path.{_≡_};
 ghost use Prim.Native.Nat.{_-_};
 ghost use Rattle.ticket.specs.Ticket.{TicketCall, ticket-after};
-ghost use Rattle.accept.specs.Accept.{accept as accept-of, accept-store};
-ghost use Rattle.receive.specs.Receive.{receive as receive-of, receive-hold};
-ghost use Rattle.ticket_lent.specs.Counted.{accept-ticket, receive-ticket};
+ghost use Rattle.ticket_lent.specs.Counted.{AcceptCounts, ReceiveCounts};
 
 // The ticket after an accept that found the end as it was before: its flits are those that the end then holds more.
 fn after_accepted(t: Ticket, before: End, accepted: Accepted) -> Ticket
@@ -36,7 +34,7 @@ fn after_received(t: Ticket, received: Received) -> Ticket
 
 // Accept, with a ticket that is lent.
 pub fn accept(t: &mut Ticket, e: End, store: &mut [u8], unit: &[u8]) -> Accepted
-    ensures { λ r. ⌜ (r ≡ accept-of e (now (store .entry)) (now (unit .entry))) × (now (t .exit) ≡ accept-ticket (now (t .entry)) e (now (store .entry)) (now (unit .entry))) × (now (store .exit) ≡ accept-store e (now (store .entry)) (now (unit .entry))) ⌝ }
+    ensures { λ r. ⌜ AcceptCounts (now (t .entry)) e (now (store .entry)) (now (unit .entry)) r (now (t .exit)) (now (store .exit)) ⌝ }
 {
     let accepted = accept::accept(e, store, unit);
     *t = after_accepted(*t, e, accepted);
@@ -45,7 +43,7 @@ pub fn accept(t: &mut Ticket, e: End, store: &mut [u8], unit: &[u8]) -> Accepted
 
 // Receive, with a ticket that is lent.
 pub fn receive(t: &mut Ticket, e: End, store: &[u8], hold: &mut [u8], flit: &[u8]) -> Received
-    ensures { λ r. ⌜ (r ≡ receive-of e (now (store .entry)) (now (hold .entry)) (now (flit .entry))) × (now (t .exit) ≡ receive-ticket (now (t .entry)) e (now (store .entry)) (now (hold .entry)) (now (flit .entry))) × (now (hold .exit) ≡ receive-hold e (now (store .entry)) (now (hold .entry)) (now (flit .entry))) ⌝ }
+    ensures { λ r. ⌜ ReceiveCounts (now (t .entry)) e (now (store .entry)) (now (hold .entry)) (now (flit .entry)) r (now (t .exit)) (now (hold .exit)) ⌝ }
 {
     let received = receive::receive(e, store, hold, flit);
     *t = after_received(*t, received);

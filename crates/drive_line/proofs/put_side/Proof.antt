@@ -4,7 +4,7 @@ use Prim.Native.Nat.{ℕ}
 use native.Mathlib.Nat.{sub-zero}
 use lib.ListN.{take}
 use Rattle.text.proofs.Laws.{puts-as}
-use Rattle.text_state.specs.Show.{state-text}
+use Rattle.drive_state.specs.Show.{state-text}
 use Rattle.drive_line.proofs.Leaving.{leaves-side}
 use borrow.Author.Needs.{needs}
 use Rattle.drive_line.proofs.put_side.Statement.{statement}

@@ -1,10 +1,10 @@
--- `text_state::put_rest` meets its contract: the fields as one form.
+-- `drive_state::put_rest` meets its contract: the fields as one form.
 use Rattle.text.proofs.Laws.{puts-as}
-use Rattle.text_state.proofs.Laws.{rest-is}
+use Rattle.drive_state.proofs.Laws.{rest-is}
 use native.Mathlib.Omega.{arith}
 use borrow.Author.Needs.{needs}
-use Rattle.text_state.proofs.put_rest.Statement.{statement}
-use Rattle.text_state.proofs.put_rest.Tie as tie
+use Rattle.drive_state.proofs.put_rest.Statement.{statement}
+use Rattle.drive_state.proofs.put_rest.Tie as tie
 
 cast-t10 : tie.Need-cast-t10
 cast-t10 c = omega (arith, c .before .good .1 .1 .0 .1 .1 .1 .1 .1 .1 .1 .1 .1 .1 .1 .1 .1 .1 .1 .1 .1 .1 .1 .0)

@@ -48,6 +48,12 @@ information-part l = key-value " info=" (getD l 0 0) ++ older l 7
 unfoldable pub sums-part : List ℕ → List ℕ → List ℕ
 sums-part store hold = key-value " store=" (adler store) ++ key-value " hold=" (adler hold) ++ ascii "\n"
 
+-- what stands after the mode, with the checksums of both buffers
+abbrev pub after-mode : End → ℕ → ℕ → List ℕ
+after-mode e store hold =
+    key-value " cause=" (e .cause) ++ key-value " discards=" (e .discards) ++ key-value " pending=" (mark-number (e .pending)) ++ information-part (e .information)
+    ++ (key-value " store=" store ++ key-value " hold=" hold ++ ascii "\n")
+
 -- the state with its store and its hold buffer
 unfoldable pub state-text : End → List ℕ → List ℕ → List ℕ
 state-text e store hold =

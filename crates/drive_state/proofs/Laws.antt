@@ -14,7 +14,7 @@ use Rattle.text_word.proofs.Laws.{mode-short}
 use Rattle.end_state.specs.declared.End.{End}
 use Rattle.ticket.specs.Ticket.{in-order}
 use Rattle.ticket.specs.declared.Ticket.{Ticket}
-use Rattle.text_state.specs.Show.{mark-number, ring-part, sending-part, receiving-part, mode-part, older, information-part, sums-part, state-text, ticket-text}
+use Rattle.drive_state.specs.Show.{mark-number, ring-part, sending-part, receiving-part, mode-part, older, information-part, sums-part, state-text, ticket-text, after-mode}
 
 -- the number of a bool
 mark-is : (set : Bool) → boolByte set ≡ mark-number set
@@ -68,11 +68,6 @@ pub numbers-short : (e : End) → length (before-mode e) ≤ 512
 numbers-short e = omega (arith, filled-short numbers-form (numbers e (boolByte (e .stalled))), ap length (numbers-are e))
 
 -- ---- what comes after it
-
-abbrev after-mode : End → ℕ → ℕ → List ℕ
-after-mode e store hold =
-    key-value " cause=" (e .cause) ++ key-value " discards=" (e .discards) ++ key-value " pending=" (mark-number (e .pending)) ++ information-part (e .information)
-    ++ (key-value " store=" store ++ key-value " hold=" hold ++ ascii "\n")
 
 abbrev rest-form : List ℕ
 rest-form = ascii " cause=# discards=# pending=# info=#,#,#,#,#,#,#,# store=# hold=#\n"

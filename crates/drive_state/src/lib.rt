@@ -5,8 +5,8 @@ use ticket::Ticket;
 ghost use mathlib.Core.List.{_++_};
 ghost use Prim.Native.Nat.{_+_, _≤_};
 ghost use lib.ListN.{length};
-ghost use Rattle.text.specs.Text.{ascii, key-value, Puts};
-ghost use Rattle.text_state.specs.Show.{mark-number, ring-part, sending-part, receiving-part, information-part, state-text, ticket-text};
+ghost use Rattle.text.specs.Text.{ascii, Puts};
+ghost use Rattle.drive_state.specs.Show.{ring-part, sending-part, receiving-part, after-mode, state-text, ticket-text};
 
 // Writes the state of an end, a space before each key, and a line feed.
 pub fn put_state(out: &mut [u8], at: usize, e: End, store: &[u8], hold: &[u8]) -> usize
@@ -53,7 +53,7 @@ fn put_numbers(out: &mut [u8], at: usize, e: End) -> usize
 // What comes after it: the information newest first, and the checksums of both buffers.
 fn put_rest(out: &mut [u8], at: usize, e: End, store: u64, hold: u64) -> usize
     requires { ⌜ at + 384 ≤ length (now out) ⌝ }
-    ensures { λ r. ⌜ Puts (now (out .entry)) at (key-value " cause=" (e .cause) ++ key-value " discards=" (e .discards) ++ key-value " pending=" (mark-number (e .pending)) ++ information-part (e .information) ++ (key-value " store=" store ++ key-value " hold=" hold ++ ascii "\n")) r (now (out .exit)) ⌝ }
+    ensures { λ r. ⌜ Puts (now (out .entry)) at (after-mode e store hold) r (now (out .exit)) ⌝ }
 {
     let numbers = [
         e.cause as u64,

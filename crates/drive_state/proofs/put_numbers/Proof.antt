@@ -1,10 +1,10 @@
--- `text_state::put_numbers` meets its contract: the fields as one form.
+-- `drive_state::put_numbers` meets its contract: the fields as one form.
 use Rattle.text.proofs.Laws.{puts-as}
-use Rattle.text_state.proofs.Laws.{numbers-are}
+use Rattle.drive_state.proofs.Laws.{numbers-are}
 use native.Mathlib.Omega.{arith}
 use borrow.Author.Needs.{needs}
-use Rattle.text_state.proofs.put_numbers.Statement.{statement}
-use Rattle.text_state.proofs.put_numbers.Tie as tie
+use Rattle.drive_state.proofs.put_numbers.Statement.{statement}
+use Rattle.drive_state.proofs.put_numbers.Tie as tie
 
 cast-t10 : tie.Need-cast-t10
 cast-t10 c = search needs

@@ -1,11 +1,11 @@
--- `text_state::put_state` meets its contract: numbers, the mode's word, and the rest.
+-- `drive_state::put_state` meets its contract: numbers, the mode's word, and the rest.
 use native.Mathlib.Omega.{arith}
 use Rattle.text.proofs.Laws.{puts-more, puts-as}
 use Rattle.text_word.proofs.Laws.{mode-short}
-use Rattle.text_state.proofs.Laws.{numbers-short, state-is}
+use Rattle.drive_state.proofs.Laws.{numbers-short, state-is}
 use borrow.Author.Needs.{needs}
-use Rattle.text_state.proofs.put_state.Statement.{statement}
-use Rattle.text_state.proofs.put_state.Tie as tie
+use Rattle.drive_state.proofs.put_state.Statement.{statement}
+use Rattle.drive_state.proofs.put_state.Tie as tie
 
 put-numbers-requires : tie.Need-put-numbers-requires
 put-numbers-requires c κs = search needs

@@ -1,9 +1,9 @@
--- `text_state::put_ticket` meets its contract: its line as one form.
+-- `drive_state::put_ticket` meets its contract: its line as one form.
 use Rattle.text.proofs.Laws.{puts-as}
-use Rattle.text_state.proofs.Laws.{ticket-is}
+use Rattle.drive_state.proofs.Laws.{ticket-is}
 use borrow.Author.Needs.{needs}
-use Rattle.text_state.proofs.put_ticket.Statement.{statement}
-use Rattle.text_state.proofs.put_ticket.Tie as tie
+use Rattle.drive_state.proofs.put_ticket.Statement.{statement}
+use Rattle.drive_state.proofs.put_ticket.Tie as tie
 
 slice-aggregate-put-counts : tie.Need-slice-aggregate-put-counts
 slice-aggregate-put-counts c = search needs
