@@ -1,6 +1,6 @@
 // Reads flits from standard input into a fresh receiver and prints a line for each (01, "The bench ticket"). With --ticket the
 // ticket follows. Here bytes are only moved: what is printed is said by the library.
-use bench_line::Bench;
+use bench_capture::Bench;
 use libc::STDERR_FILENO;
 use libc::STDIN_FILENO;
 ghost use mathlib.Core.Path.{_≡_};
@@ -53,7 +53,7 @@ fn print_all(
 )
     requires { ⌜ (now t ≡ table) × (length (now input) ≡ 65536) × (length (now out) ≡ 131072) ⌝ }
 {
-    let mut kept = bench_line::begin(store);
+    let mut kept = bench_capture::begin(store);
     let mut rest: usize = 0;
     let mut reading = true;
     let mut failed = false;
@@ -98,11 +98,11 @@ fn print_some(
     }
     let more = io::count(got, &input[rest..]);
     let bytes = rest + more;
-    let printed = bench_line::print_flits(t, kept, store, hold, &input[..bytes], out);
+    let printed = bench_capture::print_flits(t, kept, store, hold, &input[..bytes], out);
     let after = printed.kept;
     let lines = printed.bytes;
     let left = bytes % 64;
-    bench_line::keep_rest(input, bytes - left, left);
+    bench_capture::keep_rest(input, bytes - left, left);
     let written = text_out::write(out, lines);
     Turn {
         kept: after,

@@ -7,8 +7,8 @@ use lib.Dec.{ltb}
 use lib.ListN.{length}
 use borrow.Author.Tests.{ltb-true}
 use Rattle.end_state.proofs.Tests.{and-r}
-use Rattle.bench_line.specs.declared.Bench.{Bench}
-use Rattle.bench_line.specs.Bench.{bench-begun}
+use Rattle.bench_capture.specs.declared.Bench.{Bench}
+use Rattle.bench_capture.specs.Bench.{bench-begun}
 use Rattle.bench_line.proofs.Laws.{last-short}
 use Rattle.bench.proofs.print_all.Statement.{statement}
 use Rattle.bench.proofs.print_all.Tie as tie

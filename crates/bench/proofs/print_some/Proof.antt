@@ -3,7 +3,7 @@ use mathlib.Core.Path.{_≡_}
 use Prim.Native.Nat.{_+_, _≤_}
 use native.Mathlib.Omega.{arith}
 use lib.ListN.{length, take, length-take, length-drop}
-use Rattle.bench_line.proofs.Laws.{session-counted, session-short}
+use Rattle.bench_capture.proofs.Laws.{session-counted, session-short}
 use borrow.Author.Needs.{needs}
 use Rattle.bench.proofs.print_some.Statement.{statement}
 use Rattle.bench.proofs.print_some.Tie as tie

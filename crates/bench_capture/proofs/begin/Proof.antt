@@ -1,9 +1,9 @@
--- `bench_line::begin` meets its contract.
+-- `bench_capture::begin` meets its contract.
 use mathlib.Core.Path.{refl}
-use Rattle.bench_line.specs.Bench.{bench-begun}
+use Rattle.bench_capture.specs.Bench.{bench-begun}
 use borrow.Author.Needs.{needs}
-use Rattle.bench_line.proofs.begin.Statement.{statement}
-use Rattle.bench_line.proofs.begin.Tie as tie
+use Rattle.bench_capture.proofs.begin.Statement.{statement}
+use Rattle.bench_capture.proofs.begin.Tie as tie
 
 start-requires : tie.Need-start-requires
 start-requires c κs = search needs

@@ -1,15 +1,15 @@
--- `bench_line::print_flits` meets its contract: after n turns, what is kept, hold and the output are as after the first n flits.
+-- `bench_capture::print_flits` meets its contract: after n turns, what is kept, hold and the output are as after the first n flits.
 use mathlib.Core.Path.{_≡_, refl, ap, _∙_}
 use Prim.Native.Nat.{ℕ, _+_, _-_, _*_, _/_, _≤_}
 use native.Mathlib.Omega.{arith}
 use lib.ListN.{length}
 use Rattle.text.proofs.Laws.{puts-none, puts-as}
 use Rattle.end_state.proofs.Parts.{flit-is}
-use Rattle.bench_line.specs.declared.Bench.{Bench}
-use Rattle.bench_line.specs.Bench.{BenchSession, flits}
-use Rattle.bench_line.proofs.Laws.{After, from-here, flits-counted, lines-short, goes-on}
-use Rattle.bench_line.proofs.print_flits.Statement.{statement}
-use Rattle.bench_line.proofs.print_flits.Tie as tie
+use Rattle.bench_capture.specs.declared.Bench.{Bench}
+use Rattle.bench_capture.specs.Bench.{BenchSession, flits}
+use Rattle.bench_capture.proofs.Laws.{After, from-here, flits-counted, lines-short, goes-on}
+use Rattle.bench_capture.proofs.print_flits.Statement.{statement}
+use Rattle.bench_capture.proofs.print_flits.Tie as tie
 
 abbrev Inv-loop : tie.InvT-loop
 Inv-loop t store hold₀ input out₀ whole kept₀ bytes₀ n₀ hold out kept bytes n = (n ≤ whole) × After store (from-here kept₀ hold₀) input out₀ n kept hold bytes out × (length hold ≡ length hold₀)

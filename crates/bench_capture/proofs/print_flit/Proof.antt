@@ -1,12 +1,13 @@
--- `bench_line::print_flit` meets its contract: what receive answers is printed and counted.
+-- `bench_capture::print_flit` meets its contract: what receive answers is printed and counted.
 use mathlib.Core.Path.{refl, ap}
 use native.Mathlib.Omega.{arith}
 use Rattle.text.proofs.Laws.{puts-as}
 use Rattle.receive.specs.declared.Received.{Received}
-use Rattle.bench_line.specs.Bench.{flit-line, next}
+use Rattle.bench_line.specs.Line.{flit-line}
+use Rattle.bench_capture.specs.Bench.{next}
 use borrow.Author.Needs.{needs}
-use Rattle.bench_line.proofs.print_flit.Statement.{statement}
-use Rattle.bench_line.proofs.print_flit.Tie as tie
+use Rattle.bench_capture.proofs.print_flit.Statement.{statement}
+use Rattle.bench_capture.proofs.print_flit.Tie as tie
 
 receive-with-requires : tie.Need-receive-with-requires
 receive-with-requires c κs = search needs

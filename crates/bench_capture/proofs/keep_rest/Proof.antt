@@ -1,4 +1,4 @@
--- `bench_line::keep_rest` meets its contract: the first i bytes are moved, and those after them are as they were.
+-- `bench_capture::keep_rest` meets its contract: the first i bytes are moved, and those after them are as they were.
 use mathlib.Core.Path.{_≡_, refl, sym, ap, _∙_}
 use mathlib.Core.List.{List, _++_}
 use Prim.Native.Nat.{ℕ, suc, _+_, _-_, _≤_, _<_}
@@ -7,8 +7,8 @@ use native.Mathlib.Numerals.{add-one}
 use native.Mathlib.Omega.{arith}
 use lib.ListN.{length, take, drop, set, getD, length-take, length-drop, length-set}
 use lib.Seq.{take-suc, drop-cons, append-snoc, getD-append-add, getD-drop, set-at}
-use Rattle.bench_line.proofs.keep_rest.Statement.{statement}
-use Rattle.bench_line.proofs.keep_rest.Tie as tie
+use Rattle.bench_capture.proofs.keep_rest.Statement.{statement}
+use Rattle.bench_capture.proofs.keep_rest.Tie as tie
 
 -- the first i bytes moved
 abbrev moved : List ℕ → ℕ → ℕ → List ℕ

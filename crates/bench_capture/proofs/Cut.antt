@@ -8,9 +8,9 @@ use native.Mathlib.Omega.{arith}
 use lib.ListN.{length, take, drop, length-append, length-drop}
 use lib.Seq.{take-append-le, drop-append-le, drop-append-add}
 use Rattle.end_state.specs.Ring.{flit-at}
-use Rattle.bench_line.specs.declared.Bench.{Bench}
-use Rattle.bench_line.specs.Bench.{BenchSession, next, flits, whole-flits}
-use Rattle.bench_line.proofs.Laws.{from-here}
+use Rattle.bench_capture.specs.declared.Bench.{Bench}
+use Rattle.bench_capture.specs.Bench.{BenchSession, next, flits, whole-flits}
+use Rattle.bench_capture.proofs.Laws.{from-here}
 
 -- a flit of the first part, and one of the second
 flit-front : (a b : List ℕ) (i : ℕ) → i * 64 + 64 ≤ length a → flit-at (a ++ b) i ≡ flit-at a i
