@@ -1,10 +1,10 @@
 -- Send writes what goes on the wire next (01, "Send"): its refusals, its answer, and what the output then holds. The steps are those of
 -- crate send_burst.
 use mathlib.Core.Bool.{not, cond}
-use mathlib.Core.List.{List, _++_}
+use mathlib.Core.List.{List}
 use Prim.Native.Nat.{ℕ}
 use lib.Dec.{ltb}
-use lib.ListN.{length, drop}
+use lib.ListN.{length}
 use Rattle.end_state.specs.State.{refusal-number}
 use Rattle.end_state.specs.Refusals.{store-is, sound, previous-run, is-down}
 use Rattle.end_state.specs.declared.End.{End}
@@ -15,7 +15,7 @@ use Rattle.send.specs.declared.Answer.{Answer}
 use Rattle.send.specs.declared.Answer.the-variants as answer
 use Rattle.send.specs.declared.Sent.{Sent}
 use Rattle.send_state.specs.Moves.{moved}
-use Rattle.send_burst.specs.Burst.{burst, burst-flits}
+use Rattle.send_burst.specs.Burst.{burst, burst-flits, output-with}
 
 -- the refusals of send, in the table's order; 4 OUT: output under 640
 unfoldable pub send-verdict : End → List ℕ → ℕ → Verdict
@@ -33,7 +33,7 @@ sent-by Admitted e run = record { answer = answer.Flits (record { 0 = burst-flit
 
 abbrev pub output-by : Verdict → List ℕ → List ℕ → List ℕ
 output-by (Refused r) flits output = output
-output-by Admitted flits output = flits ++ drop (length flits) output
+output-by Admitted flits output = output-with flits output
 
 unfoldable pub send : End → List ℕ → ℕ → Sent
 send e store output = sent-by (send-verdict e store output) e (previous-run e store)

@@ -3,6 +3,7 @@ use mathlib.Core.Bool.{false, cond}
 use mathlib.Core.List.{List, _++_}
 use Prim.Native.Nat.{ℕ, _+_}
 use lib.Dec.{ltb}
+use lib.ListN.{length, drop}
 use Rattle.flit_write.specs.Flits.{idle-flit}
 use Rattle.end_state.specs.declared.End.{End}
 use Rattle.send_state.specs.Moves.{carried, fallen, unit-at-cursor}
@@ -24,3 +25,7 @@ burst e store run errors information =
 -- the number of flits written
 unfoldable pub burst-flits : End → ℕ → ℕ
 burst-flits e run = cond (e .pending) 2 (cond (unit-at-cursor e) (cond (ltb 0 run) (run + 2) 1) 1)
+
+-- the output with flits at its start; its other bytes stay
+abbrev pub output-with : List ℕ → List ℕ → List ℕ
+output-with flits output = flits ++ drop (length flits) output

@@ -11,7 +11,7 @@ ghost use lib.ListN.{length, drop};
 ghost use Rattle.crc.specs.Register.{table};
 ghost use Rattle.flit_write.specs.Flits.{idle-flit};
 ghost use Rattle.end_state.specs.Refusals.{store-is, sound, previous-run};
-ghost use Rattle.send_burst.specs.Burst.{burst as burst-of, burst-flits};
+ghost use Rattle.send_burst.specs.Burst.{burst as burst-of, burst-flits, output-with};
 
 // Writes the burst to the start of the output, and says how many flits it is.
 pub fn write_burst(
@@ -26,7 +26,7 @@ pub fn write_burst(
     requires { ⌜ (now t ≡ table) × (store-is e (length (now store)) ≡ true) × (sound e (now store) ≡ true) ⌝ }
     requires { ⌜ (run .0 ≡ previous-run e (now store)) × (640 ≤ length (now output)) ⌝ }
     ensures { λ r. ⌜ r .0 ≡ burst-flits e (run .0) ⌝ }
-    ensures { λ _. ⌜ now (output .exit) ≡ burst-of e (now (store .entry)) (run .0) errors information ++ drop (length (burst-of e (now (store .entry)) (run .0) errors information)) (now (output .entry)) ⌝ }
+    ensures { λ _. ⌜ now (output .exit) ≡ output-with (burst-of e (now (store .entry)) (run .0) errors information) (now (output .entry)) ⌝ }
 {
     if e.pending {
         send_replay::write_replays(t, e, run, output, errors, information);
