@@ -1,7 +1,7 @@
 -- The runs of specs/Examples.antt, computed.
 use mathlib.Core.Path.{_≡_, refl, ap, sym, subst, _∙_}
 use mathlib.Core.Bool.{Bool, true, false, _&&_, true≢false}
-use mathlib.Core.List.{List, [], _∷_, _++_}
+use mathlib.Core.List.{List, [], _∷_, _++_, append-nil, append-assoc}
 use Prim.Native.Nat.{ℕ, zero, suc, _*_, _≤_, _<_}
 use native.Mathlib.Omega.{arith}
 use borrow.Author.Tests.{ltb-true}
@@ -27,6 +27,7 @@ use Rattle.send_burst.specs.Burst as burst
 use Rattle.send.specs.Send as send
 use Rattle.receive_test.specs.Arrivals as arrivals
 use Rattle.receive_answer.specs.Answers as answers
+use Rattle.receive_answer.specs.declared.Answer.{Answer}
 use Rattle.receive_answer.specs.declared.Answer.the-variants as answer
 use Rattle.receive_free.specs.Acknowledge as acknowledge
 use Rattle.receive_take.specs.Taken as taken
@@ -35,9 +36,9 @@ use Rattle.receive.specs.Receive as receive
 use Rattle.proof_wire.specs.Damage as damage
 use Rattle.proof_wire.specs.Damage.{window-bits, Damage, unaltered, odd-bits, near-bits, reads-replay, sent-replay, NoReplay, Arrives}
 use Rattle.proof_wire.specs.System as system
-use Rattle.proof_wire.specs.System.{run, turned, Lent, Fair, FairBy}
+use Rattle.proof_wire.specs.System.{System, Event, step, run, turned, Lent, Fair, FairBy}
 use Rattle.proof_wire.specs.Theorem.{FirstPart, Demand}
-use Rattle.proof_runs.specs.Examples.{fresh-pair, blank-output, answers-in, outcome, unit-a, unit-b, a-sent, a-hurt, b-sent, asks, starts, full-run, unit-1, unit-2, unit-3, sent-1, sent-2, sent-3, hurt-3, data-run, owes-one, lures, closes-lure, owes-sent, owes-hurt, idle-sent, lure-sent, lured-run, no-unit, stretched, stretched-run, Wider}
+use Rattle.proof_runs.specs.Examples.{fresh-pair, blank-output, answer-in, answers-in, outcome, unit-a, unit-b, a-sent, a-hurt, b-sent, asks, starts, full-run, unit-1, unit-2, unit-3, sent-1, sent-2, sent-3, hurt-3, data-run, owes-one, lures, closes-lure, owes-sent, owes-hurt, idle-sent, lure-sent, lured-run, no-unit, stretched, stretched-run, Wider}
 use Rattle.proof_wire.proofs.Pieces.{flit-alone}
 use Rattle.proof_wire.proofs.Acceptance.{third-test}
 
@@ -110,6 +111,30 @@ unit-b-bytes : AllBytes unit-b
 unfolding unit-b
 unit-b-bytes = bytes-tested unit-b refl
 
+-- a run and its answers together, so that both are computed at once
+abbrev seen : List Event → System → List Answer → List Answer × System
+seen [] s l = (l, s)
+seen (e ∷ es) s l = seen es (step e s) (l ++ answer-in e s)
+
+seen-is : (es : List Event) (s : System) (l : List Answer) → seen es s l ≡ (l ++ answers-in es s, run es s)
+seen-is [] s l = ap (λ (k : List Answer). (k, s)) (sym (append-nil l))
+seen-is (e ∷ es) s l =
+    seen-is es (step e s) (l ++ answer-in e s)
+    ∙ ap (λ (k : List Answer). (k, run es (step e s))) (append-assoc l (answer-in e s) (answers-in es (step e s)))
+
+abbrev Outcome : Type 0
+Outcome = List (List ℕ) × List (List ℕ) × List (List ℕ)
+
+abbrev shown : List Answer × System → List Answer × Outcome
+shown t = (t .0, outcome (t .1))
+
+-- what was seen of a run, of its answers and of its outcome
+answers-seen : (es : List Event) (s : System) (l : List Answer) (o : Outcome) → shown (seen es s []) ≡ (l, o) → answers-in es s ≡ l
+answers-seen es s l o h = ap (λ (t : List Answer × System). t .0) (sym (seen-is es s [])) ∙ ap (λ (t : List Answer × Outcome). t .0) h
+
+outcome-seen : (es : List Event) (s : System) (l : List Answer) (o : Outcome) → shown (seen es s []) ≡ (l, o) → outcome (run es s) ≡ o
+outcome-seen es s l o h = ap (λ (t : List Answer × System). outcome (t .1)) (sym (seen-is es s [])) ∙ ap (λ (t : List Answer × Outcome). t .1) h
+
 -- ---- a run with everything in it
 
 pub full-fair : Fair full-run fresh-pair
@@ -117,16 +142,23 @@ unfolding numbers.acknowledge-for numbers.after numbers.difference numbers.wante
 full-fair =
     (unit-a-bytes, ((omega arith, omega arith, (a-altered, tt)), (tt, ((omega arith, omega arith, (asks-arrives, (asks-arrives, tt))), (tt, ((omega arith, omega arith, (starts-arrives, (starts-arrives, tt))), ((omega arith, omega arith, (a-arrives, tt)), (tt, (tt, (tt, (tt, ((omega arith, omega arith, (starts-arrives, (starts-arrives, tt))), ((omega arith, omega arith, (a-arrives, tt)), (tt, (tt, (tt, (unit-b-bytes, ((omega arith, omega arith, (b-arrives, tt)), (tt, tt)))))))))))))))))))
 
+abbrev full-told : List Answer
+full-told =
+    answer.Damaged ∷ answer.Replayed ∷ answer.Replayed ∷ answer.Replayed ∷ answer.Delivered (record { 0 = 0 }) ∷ answer.Replayed ∷ answer.Replayed ∷ answer.Replayed
+    ∷ answer.Duplicate ∷ answer.Delivered (record { 0 = 0 }) ∷ []
+
+full-shown : shown (seen full-run fresh-pair []) ≡ (full-told, (unit-a ∷ [], unit-b ∷ [], unit-a ∷ []))
+unfolding numbers.acknowledge-for numbers.after numbers.difference numbers.wanted-by unit.bits unit.polynomial unit.right seal.check-of seal.sealed seal.with-check bytes.bytes bytes.number fields.acceptable fields.fields-of flits.bare-control flits.control-told flits.idle-flit flits.replay-flit state.fresh state.start state.store-fits ring.walk-begun ring.flit-at ring.passed ring.ring-place ring.put-at ring.walk-over refusals.counts-sound refusals.numbers-sound refusals.sound refusals.store-is refusals.units-sound accept.accept accept.accept-store admission.unit-shaped admission.accept-verdict accept.flits-stored burst.burst burst.burst-flits moves.moved replays.replay-sent send.send send.send-output units.stored-flits units.unit-sent send.send-verdict arrivals.closes arrivals.damaged arrivals.holds arrivals.run-wrong arrivals.newly-covered arrivals.past-sent answers.plain-answer answers.replay-answer answers.run-answer arrivals.skips arrivals.stall-wrong arrivals.straddles answers.wait-answer acknowledge.acknowledged acknowledge.freed acknowledge.last-border receive.answer-to taken.closed taken.delivered effects.discarded effects.end-after receive.hold-after receive.receive receive.receive-hold taken.replay-taken receive.receive-verdict effects.waiting damage.reads-replay damage.sent-replay damage.units-of system.on-the-way fresh-pair blank-output unit-a unit-b a-sent a-hurt b-sent asks starts full-run
+full-shown = refl
+
 -- what it answers: damaged, replayed, delivered, duplicate, and a delivery the other way
 pub full-answers : answers-in full-run fresh-pair
     ≡ answer.Damaged ∷ answer.Replayed ∷ answer.Replayed ∷ answer.Replayed ∷ answer.Delivered (record { 0 = 0 }) ∷ answer.Replayed ∷ answer.Replayed ∷ answer.Replayed
     ∷ answer.Duplicate ∷ answer.Delivered (record { 0 = 0 }) ∷ []
-unfolding numbers.acknowledge-for numbers.after numbers.difference numbers.wanted-by unit.bits unit.polynomial unit.right seal.check-of seal.sealed seal.with-check bytes.bytes bytes.number fields.acceptable fields.fields-of flits.bare-control flits.control-told flits.idle-flit flits.replay-flit state.fresh state.start state.store-fits ring.walk-begun ring.flit-at ring.passed ring.ring-place ring.put-at ring.walk-over refusals.counts-sound refusals.numbers-sound refusals.sound refusals.store-is refusals.units-sound accept.accept accept.accept-store admission.unit-shaped admission.accept-verdict accept.flits-stored burst.burst burst.burst-flits moves.moved replays.replay-sent send.send send.send-output units.stored-flits units.unit-sent send.send-verdict arrivals.closes arrivals.damaged arrivals.holds arrivals.run-wrong arrivals.newly-covered arrivals.past-sent answers.plain-answer answers.replay-answer answers.run-answer arrivals.skips arrivals.stall-wrong arrivals.straddles answers.wait-answer acknowledge.acknowledged acknowledge.freed acknowledge.last-border receive.answer-to taken.closed taken.delivered effects.discarded effects.end-after receive.hold-after receive.receive receive.receive-hold taken.replay-taken receive.receive-verdict effects.waiting damage.reads-replay damage.sent-replay damage.units-of system.on-the-way fresh-pair blank-output unit-a unit-b a-sent a-hurt b-sent asks starts full-run
-full-answers = refl
+full-answers = answers-seen full-run fresh-pair full-told (unit-a ∷ [], unit-b ∷ [], unit-a ∷ []) full-shown
 
 pub full-outcome : outcome (run full-run fresh-pair) ≡ (unit-a ∷ [], unit-b ∷ [], unit-a ∷ [])
-unfolding numbers.acknowledge-for numbers.after numbers.difference numbers.wanted-by unit.bits unit.polynomial unit.right seal.check-of seal.sealed seal.with-check bytes.bytes bytes.number fields.acceptable fields.fields-of flits.bare-control flits.control-told flits.idle-flit flits.replay-flit state.fresh state.start state.store-fits ring.walk-begun ring.flit-at ring.passed ring.ring-place ring.put-at ring.walk-over refusals.counts-sound refusals.numbers-sound refusals.sound refusals.store-is refusals.units-sound accept.accept accept.accept-store admission.unit-shaped admission.accept-verdict accept.flits-stored burst.burst burst.burst-flits moves.moved replays.replay-sent send.send send.send-output units.stored-flits units.unit-sent send.send-verdict arrivals.closes arrivals.damaged arrivals.holds arrivals.run-wrong arrivals.newly-covered arrivals.past-sent answers.plain-answer answers.replay-answer answers.run-answer arrivals.skips arrivals.stall-wrong arrivals.straddles answers.wait-answer acknowledge.acknowledged acknowledge.freed acknowledge.last-border receive.answer-to taken.closed taken.delivered effects.discarded effects.end-after receive.hold-after receive.receive receive.receive-hold taken.replay-taken receive.receive-verdict effects.waiting damage.reads-replay damage.sent-replay damage.units-of system.on-the-way fresh-pair blank-output unit-a unit-b a-sent a-hurt b-sent asks starts full-run
-full-outcome = refl
+full-outcome = outcome-seen full-run fresh-pair full-told (unit-a ∷ [], unit-b ∷ [], unit-a ∷ []) full-shown
 
 lent : Lent (replicate 576 0) (replicate 576 0)
 lent = record { capacity = 9; least = omega arith; most = omega arith; size = refl; hold-size = refl }
@@ -189,14 +221,20 @@ unfolding numbers.acknowledge-for numbers.after numbers.difference numbers.wante
 data-fair =
     (data-1, (data-2, (data-3, ((omega arith, omega arith, (arrives-1, tt)), ((omega arith, omega arith, (arrives-idle, (arrives-2, tt))), ((omega arith, omega arith, (arrives-idle, (altered-3, tt))), (tt, (tt, (tt, (tt, (tt, (tt, (tt, tt)))))))))))))
 
+abbrev data-told : List Answer
+data-told =
+    answer.Delivered (record { 0 = 0 }) ∷ answer.Idle ∷ answer.Held ∷ answer.Delivered (record { 0 = 1 }) ∷ answer.Idle ∷ answer.Held ∷ answer.Damaged ∷ []
+
+data-shown : shown (seen data-run fresh-pair []) ≡ (data-told, (unit-1 ∷ unit-2 ∷ [], [], unit-1 ∷ unit-2 ∷ unit-3 ∷ []))
+unfolding numbers.acknowledge-for numbers.after numbers.difference numbers.wanted-by unit.bits unit.polynomial unit.right seal.check-of seal.sealed seal.with-check bytes.bytes bytes.number fields.acceptable fields.fields-of flits.bare-control flits.control-told flits.idle-flit flits.replay-flit state.fresh state.start state.store-fits ring.walk-begun ring.flit-at ring.passed ring.ring-place ring.put-at ring.walk-over refusals.counts-sound refusals.numbers-sound refusals.sound refusals.store-is refusals.units-sound accept.accept accept.accept-store admission.unit-shaped admission.accept-verdict accept.flits-stored burst.burst burst.burst-flits moves.moved replays.replay-sent send.send send.send-output units.stored-flits units.unit-sent send.send-verdict arrivals.closes arrivals.damaged arrivals.holds arrivals.run-wrong arrivals.newly-covered arrivals.past-sent answers.plain-answer answers.replay-answer answers.run-answer arrivals.skips arrivals.stall-wrong arrivals.straddles answers.wait-answer acknowledge.acknowledged acknowledge.freed acknowledge.last-border receive.answer-to taken.closed taken.delivered effects.discarded effects.end-after receive.hold-after receive.receive receive.receive-hold taken.replay-taken receive.receive-verdict effects.waiting damage.reads-replay damage.sent-replay damage.units-of system.on-the-way fresh-pair blank-output unit-1 unit-2 unit-3 idle-sent sent-1 sent-2 sent-3 hurt-3 data-run
+data-shown = refl
+
 pub data-answers : answers-in data-run fresh-pair
     ≡ answer.Delivered (record { 0 = 0 }) ∷ answer.Idle ∷ answer.Held ∷ answer.Delivered (record { 0 = 1 }) ∷ answer.Idle ∷ answer.Held ∷ answer.Damaged ∷ []
-unfolding numbers.acknowledge-for numbers.after numbers.difference numbers.wanted-by unit.bits unit.polynomial unit.right seal.check-of seal.sealed seal.with-check bytes.bytes bytes.number fields.acceptable fields.fields-of flits.bare-control flits.control-told flits.idle-flit flits.replay-flit state.fresh state.start state.store-fits ring.walk-begun ring.flit-at ring.passed ring.ring-place ring.put-at ring.walk-over refusals.counts-sound refusals.numbers-sound refusals.sound refusals.store-is refusals.units-sound accept.accept accept.accept-store admission.unit-shaped admission.accept-verdict accept.flits-stored burst.burst burst.burst-flits moves.moved replays.replay-sent send.send send.send-output units.stored-flits units.unit-sent send.send-verdict arrivals.closes arrivals.damaged arrivals.holds arrivals.run-wrong arrivals.newly-covered arrivals.past-sent answers.plain-answer answers.replay-answer answers.run-answer arrivals.skips arrivals.stall-wrong arrivals.straddles answers.wait-answer acknowledge.acknowledged acknowledge.freed acknowledge.last-border receive.answer-to taken.closed taken.delivered effects.discarded effects.end-after receive.hold-after receive.receive receive.receive-hold taken.replay-taken receive.receive-verdict effects.waiting damage.reads-replay damage.sent-replay damage.units-of system.on-the-way fresh-pair blank-output unit-1 unit-2 unit-3 idle-sent sent-1 sent-2 sent-3 hurt-3 data-run
-data-answers = refl
+data-answers = answers-seen data-run fresh-pair data-told (unit-1 ∷ unit-2 ∷ [], [], unit-1 ∷ unit-2 ∷ unit-3 ∷ []) data-shown
 
 pub data-outcome : outcome (run data-run fresh-pair) ≡ (unit-1 ∷ unit-2 ∷ [], [], unit-1 ∷ unit-2 ∷ unit-3 ∷ [])
-unfolding numbers.acknowledge-for numbers.after numbers.difference numbers.wanted-by unit.bits unit.polynomial unit.right seal.check-of seal.sealed seal.with-check bytes.bytes bytes.number fields.acceptable fields.fields-of flits.bare-control flits.control-told flits.idle-flit flits.replay-flit state.fresh state.start state.store-fits ring.walk-begun ring.flit-at ring.passed ring.ring-place ring.put-at ring.walk-over refusals.counts-sound refusals.numbers-sound refusals.sound refusals.store-is refusals.units-sound accept.accept accept.accept-store admission.unit-shaped admission.accept-verdict accept.flits-stored burst.burst burst.burst-flits moves.moved replays.replay-sent send.send send.send-output units.stored-flits units.unit-sent send.send-verdict arrivals.closes arrivals.damaged arrivals.holds arrivals.run-wrong arrivals.newly-covered arrivals.past-sent answers.plain-answer answers.replay-answer answers.run-answer arrivals.skips arrivals.stall-wrong arrivals.straddles answers.wait-answer acknowledge.acknowledged acknowledge.freed acknowledge.last-border receive.answer-to taken.closed taken.delivered effects.discarded effects.end-after receive.hold-after receive.receive receive.receive-hold taken.replay-taken receive.receive-verdict effects.waiting damage.reads-replay damage.sent-replay damage.units-of system.on-the-way fresh-pair blank-output unit-1 unit-2 unit-3 idle-sent sent-1 sent-2 sent-3 hurt-3 data-run
-data-outcome = refl
+data-outcome = outcome-seen data-run fresh-pair data-told (unit-1 ∷ unit-2 ∷ [], [], unit-1 ∷ unit-2 ∷ unit-3 ∷ []) data-shown
 
 -- ---- a wrong unit is no first part
 
