@@ -1,4 +1,4 @@
--- What a command leaves, from what its functions say: the side in its buffers, and the text before STATE. Assumes nothing.
+-- What a command leaves, from what its functions say: the side in its buffers, and the text before STATE.
 use mathlib.Core.Bool.{true, false, cond}
 use mathlib.Core.List.{List}
 use mathlib.Core.Path.{_≡_, refl, ap, ap₂, sym, subst, _∙_}
@@ -120,29 +120,49 @@ buffered-zeros n s store hold h same e f =
 
 -- ---- what is left
 
+-- both of what a command leaves: what is kept stands in the buffers, and its line is put
+pub record Left (d : Did) (s : Side) (store hold out : List ℕ) (at next : ℕ) (after : List ℕ) : Type 0 where
+  pub kept : Leaves (d .kept) s store hold
+  pub line : Puts out at (d .line) next after
+
+module _ {d : Did} {r : Side} {store hold out : List ℕ} {at next : ℕ} {after : List ℕ} where
+  pub apart : Left d r store hold out at next after → Leaves (d .kept) r store hold × Puts out at (d .line) next after
+  apart l = (l .kept, l .line)
+
+  pub joined : Leaves (d .kept) r store hold × Puts out at (d .line) next after → Left d r store hold out at next after
+  joined p = record { kept = p .0; line = p .1 }
+
 module _ {r : Side} {store hold out : List ℕ} {at next : ℕ} {after : List ℕ} where
-  pub leaves-as : {d d' : Did} → d ≡ d' → Leaves d r store hold out at next after → Leaves d' r store hold out at next after
-  leaves-as e l = subst (λ (d : Did). Leaves d r store hold out at next after) e l
+  pub leaves-as : {d d' : Did} → d ≡ d' → Left d r store hold out at next after → Left d' r store hold out at next after
+  leaves-as e l = subst (λ (d : Did). Left d r store hold out at next after) e l
 
   -- a line of a head and STATE
-  pub leaves-stated : {head head' : List ℕ} {k k' : Kept} → head ≡ head' → k ≡ k' → Leaves (stated head k) r store hold out at next after
-      → Leaves (stated head' k') r store hold out at next after
+  pub leaves-stated : {head head' : List ℕ} {k k' : Kept} → head ≡ head' → k ≡ k' → Left (stated head k) r store hold out at next after
+      → Left (stated head' k') r store hold out at next after
   leaves-stated e f l = leaves-as (ap₂ stated e f) l
 
   -- the command is known
   pub leaves-did : (k : Kept) (buffer : List ℕ) (c c' : Command) (d : Did) → c ≡ c' → d ≡ commanded k c' (take (bytes-in c') buffer)
-      → Leaves d r store hold out at next after → Leaves (commanded k c (take (bytes-in c) buffer)) r store hold out at next after
+      → Left d r store hold out at next after → Left (commanded k c (take (bytes-in c) buffer)) r store hold out at next after
   leaves-did k buffer c c' d e f l = leaves-as (f ∙ ap (λ (x : Command). commanded k x (take (bytes-in x) buffer)) (sym e)) l
 
-pub leaves-side : {s : Side} {store hold head before middle after : List ℕ} {from at next : ℕ} → Buffered s store hold → Puts before from head at middle
-    → Puts middle at (state-of (kept-in s store hold)) next after → Leaves (stated head (kept-in s store hold)) s store hold before from next after
+-- STATE after a head, and a line without it
+pub leaves-side : {s r : Side} {store hold head before middle after : List ℕ} {from at next : ℕ} → Puts before from head at middle
+    → Leaves (kept-in s store hold) r store hold × Puts middle at (state-of (kept-in s store hold)) next after
+    → Left (stated head (kept-in s store hold)) r store hold before from next after
 unfolding stated
-leaves-side b p q = record { kept = refl; buffers = b; line = puts-more p q }
+leaves-side p q = record { kept = q .0; line = puts-more p (q .1) }
 
-pub leaves-bad : {s : Side} {store hold out after : List ℕ} {at next : ℕ} → Buffered s store hold → Puts out at bad-line next after
-    → Leaves (bad (kept-in s store hold)) s store hold out at next after
+pub leaves-alone : {s r : Side} {store hold line out after : List ℕ} {at next : ℕ} → Buffered s store hold → (r ≡ s) × Puts out at line next after
+    → Left (record { kept = kept-in s store hold; line = line }) r store hold out at next after
+leaves-alone {s} {r} {store} {hold} {line} {out} {after} {at} {next} b p =
+    subst (λ (x : Side). Left (record { kept = kept-in s store hold; line = line }) x store hold out at next after) (sym (p .0))
+    (record { kept = record { kept = refl; buffers = b }; line = p .1 })
+
+pub leaves-bad : {s r : Side} {store hold out after : List ℕ} {at next : ℕ} → Buffered s store hold → (r ≡ s) × Puts out at bad-line next after
+    → Left (bad (kept-in s store hold)) r store hold out at next after
 unfolding bad
-leaves-bad b p = record { kept = refl; buffers = b; line = p }
+leaves-bad b p = leaves-alone b p
 
 -- ---- fill
 
@@ -160,8 +180,8 @@ module _ (k : Kept) (offset : ℕ) (bytes : List ℕ) where
 
   module _ {r : Side} {store hold out : List ℕ} {at next : ℕ} {after : List ℕ} where
     pub leaves-filled : fill-fits (k .side .kept) offset (length bytes) ≡ true
-        → Leaves (stated (key-value "fill refuse=" 0) (record { side = k .side; store = filled; hold = k .hold })) r store hold out at next after
-        → Leaves (fill-line k offset bytes) r store hold out at next after
+        → Left (stated (key-value "fill refuse=" 0) (record { side = k .side; store = filled; hold = k .hold })) r store hold out at next after
+        → Left (fill-line k offset bytes) r store hold out at next after
     unfolding fill-line
     leaves-filled t l =
         leaves-as
@@ -169,8 +189,8 @@ module _ (k : Kept) (offset : ℕ) (bytes : List ℕ) where
         ∙ sym (cond-true (fill-fits (k .side .kept) offset (length bytes)) _ (bad k) t)) l
 
     pub leaves-unfilled : fill-fits (k .side .kept) offset (length bytes) ≡ false
-        → Leaves (bad (record { side = k .side; store = filled; hold = k .hold })) r store hold out at next after
-        → Leaves (fill-line k offset bytes) r store hold out at next after
+        → Left (bad (record { side = k .side; store = filled; hold = k .hold })) r store hold out at next after
+        → Left (fill-line k offset bytes) r store hold out at next after
     unfolding fill-line
     leaves-unfilled t l =
         leaves-as

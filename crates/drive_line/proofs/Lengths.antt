@@ -1,4 +1,4 @@
--- That the flits written are inside the output, and how long a line is. Assumes nothing.
+-- That the flits written are inside the output, and how long a line is.
 use mathlib.Core.List.{List, _++_}
 use mathlib.Core.Path.{_≡_, refl}
 use Prim.Native.Nat.{ℕ, _*_, _≤_}

@@ -1,15 +1,16 @@
--- What each command of a script does to an end, and the line that it prints. Assumes nothing.
+-- What each command of a script does to an end, and the line that it prints.
 use mathlib.Core.Bool.{cond}
 use mathlib.Core.List.{List, _++_}
 use mathlib.Core.Path.{_≡_}
 use Prim.Native.Nat.{ℕ, _≤_}
 use lib.ListN.{length, take}
-use Rattle.text.specs.Text.{ascii, key-value, written, Puts}
+use Rattle.text.specs.Text.{ascii, key-value, written}
 use Rattle.drive_state.specs.Show.{state-text, ticket-text}
 use Rattle.drive_head.specs.Heads.{send-head, receive-head}
 use Rattle.end_state.specs.State.{verdict-number}
 use Rattle.drive_name.specs.declared.EndField.{EndField}
 use Rattle.drive_name.specs.declared.Key.{Key}
+use Rattle.drive_script.specs.Script.{bytes-in}
 use Rattle.drive_script.specs.declared.Command.{Command}
 use Rattle.drive_script.specs.declared.Command.the-variants as command
 use Rattle.drive_side.specs.Settings.{side-poked, side-lent, side-counted}
@@ -102,6 +103,10 @@ commanded k (command.Lend store hold) bytes = lend-line k store hold
 commanded k command.Ticket bytes = record { kept = k; line = ticket-line (k .side) }
 commanded k (command.Count key n) bytes = count-line k key n
 
+-- the bytes of HEX stand at the start of a buffer
+abbrev pub commanded-from : Kept → Command → List ℕ → Did
+commanded-from k c buffer = commanded k c (take (bytes-in c) buffer)
+
 -- ---- what stands in the buffers
 
 -- the store is the first bytes of its buffer, and the hold the first 576 of its own
@@ -119,8 +124,7 @@ pub record Buffered (s : Side) (store hold : List ℕ) : Type 0 where
   pub store-clean : Clean (s .kept) store
   pub hold-clean : Clean 576 hold
 
--- what a command leaves stands in the buffers, and its line is put
-pub record Leaves (d : Did) (s : Side) (store hold out : List ℕ) (at next : ℕ) (after : List ℕ) : Type 0 where
-  pub kept : kept-in s store hold ≡ d .kept
+-- what is to be kept stands in the buffers
+pub record Leaves (k : Kept) (s : Side) (store hold : List ℕ) : Type 0 where
+  pub kept : kept-in s store hold ≡ k
   pub buffers : Buffered s store hold
-  pub line : Puts out at (d .line) next after

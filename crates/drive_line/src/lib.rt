@@ -5,15 +5,15 @@ use drive_script::Command;
 use drive_side::Side;
 use end_state::End;
 ghost use mathlib.Core.Path.{_≡_};
-ghost use mathlib.Core.List.{List, _++_};
-ghost use Prim.Native.Nat.{ℕ, _+_, _≤_};
-ghost use lib.ListN.{length, take};
+ghost use mathlib.Core.List.{_++_};
+ghost use Prim.Native.Nat.{_+_, _≤_};
+ghost use lib.ListN.{length};
 ghost use Rattle.crc.specs.Register.{table};
 ghost use Rattle.text.specs.Text.{decimal, Puts};
 ghost use Rattle.drive_name.specs.Names.{most};
-ghost use Rattle.drive_script.specs.Script.{in-range, bytes-in};
+ghost use Rattle.drive_script.specs.Script.{in-range};
 ghost use Rattle.drive_call.specs.Sides.{repeated};
-ghost use Rattle.drive_line.specs.Lines.{stated, bad as bad-of, ticket-line, kept-in, Buffered, Leaves, commanded, start-line, accept-line, send-line, receive-line, poke-line, fill-line, lend-line, count-line};
+ghost use Rattle.drive_line.specs.Lines.{state-of, stated, bad-line, ticket-line, kept-in, Buffered, Leaves, commanded-from, start-line, accept-line, send-line, receive-line, poke-line, fill-line, lend-line, count-line};
 
 // The side after a command, and the place after its line.
 pub struct Done {
@@ -33,7 +33,8 @@ pub fn run(
     at: usize,
 ) -> Done
     requires { ⌜ (now t ≡ table) × Buffered side (now store) (now hold) × (length (now bytes) ≡ 2000) × in-range command × (at + 8192 ≤ length (now out)) ⌝ }
-    ensures { λ r. ⌜ Leaves (commanded (kept-in side (now (store .entry)) (now (hold .entry))) command (take (bytes-in command) (now (bytes .entry)))) (r .side) (now (store .exit)) (now (hold .exit)) (now (out .entry)) at (r .at) (now (out .exit)) ⌝ }
+    ensures { λ r. ⌜ Leaves (commanded-from (kept-in side (now (store .entry)) (now (hold .entry))) command (now (bytes .entry)) .kept) (r .side) (now (store .exit)) (now (hold .exit)) ⌝ }
+    ensures { λ r. ⌜ Puts (now (out .entry)) at (commanded-from (kept-in side (now (store .entry)) (now (hold .entry))) command (now (bytes .entry)) .line) (r .at) (now (out .exit)) ⌝ }
     ensures { λ _. ⌜ now (bytes .exit) ≡ repeated 2000 0 ⌝ }
 {
     let done = answer(t, side, command, store, hold, bytes, out, at);
@@ -52,7 +53,8 @@ fn answer(
     at: usize,
 ) -> Done
     requires { ⌜ (now t ≡ table) × Buffered side (now store) (now hold) × (length (now bytes) ≡ 2000) × in-range command × (at + 8192 ≤ length (now out)) ⌝ }
-    ensures { λ r. ⌜ Leaves (commanded (kept-in side (now (store .entry)) (now (hold .entry))) command (take (bytes-in command) (now (bytes .entry)))) (r .side) (now (store .exit)) (now (hold .exit)) (now (out .entry)) at (r .at) (now (out .exit)) ⌝ }
+    ensures { λ r. ⌜ Leaves (commanded-from (kept-in side (now (store .entry)) (now (hold .entry))) command (now (bytes .entry)) .kept) (r .side) (now (store .exit)) (now (hold .exit)) ⌝ }
+    ensures { λ r. ⌜ Puts (now (out .entry)) at (commanded-from (kept-in side (now (store .entry)) (now (hold .entry))) command (now (bytes .entry)) .line) (r .at) (now (out .exit)) ⌝ }
 {
     match command {
         Command::Bad => bad(side, out, at),
@@ -81,7 +83,8 @@ fn answer(
 // A line that is no command changes nothing.
 fn bad(side: Side, out: &mut [u8], at: usize) -> Done
     requires { ⌜ (at + 8192 ≤ length (now out)) ⌝ }
-    ensures { λ r. ⌜ ((store hold : List ℕ) → Buffered side store hold → Leaves (bad-of (kept-in side store hold)) (r .side) store hold (now (out .entry)) at (r .at) (now (out .exit))) ⌝ }
+    ensures { λ r. ⌜ r .side ≡ side ⌝ }
+    ensures { λ r. ⌜ Puts (now (out .entry)) at bad-line (r .at) (now (out .exit)) ⌝ }
 {
     let next = text::put(out, at, b"bad\n");
     Done {
@@ -93,7 +96,8 @@ fn bad(side: Side, out: &mut [u8], at: usize) -> Done
 // Ticket prints the ticket and no state.
 fn ticket(side: Side, out: &mut [u8], at: usize) -> Done
     requires { ⌜ (at + 8192 ≤ length (now out)) ⌝ }
-    ensures { λ r. ⌜ ((store hold : List ℕ) → Buffered side store hold → Leaves (record { kept = kept-in side store hold; line = ticket-line side }) (r .side) store hold (now (out .entry)) at (r .at) (now (out .exit))) ⌝ }
+    ensures { λ r. ⌜ r .side ≡ side ⌝ }
+    ensures { λ r. ⌜ Puts (now (out .entry)) at (ticket-line side) (r .at) (now (out .exit)) ⌝ }
 {
     let counts = side.ticket;
     let next = drive_state::put_ticket(out, at, counts);
@@ -112,7 +116,8 @@ fn start(
     at: usize,
 ) -> Done
     requires { ⌜ Buffered side (now store) (now hold) × (bytes ≤ 70000) × (at + 8192 ≤ length (now out)) ⌝ }
-    ensures { λ r. ⌜ Leaves (start-line bytes) (r .side) (now (store .exit)) (now (hold .exit)) (now (out .entry)) at (r .at) (now (out .exit)) ⌝ }
+    ensures { λ r. ⌜ Leaves (start-line bytes .kept) (r .side) (now (store .exit)) (now (hold .exit)) ⌝ }
+    ensures { λ r. ⌜ Puts (now (out .entry)) at (start-line bytes .line) (r .at) (now (out .exit)) ⌝ }
 {
     let took = drive_call::start(side.kept, store, hold, bytes);
     let verdict = took.verdict;
@@ -122,7 +127,8 @@ fn start(
 
 fn accept(side: Side, store: &mut [u8], hold: &[u8], unit: &[u8], out: &mut [u8], at: usize) -> Done
     requires { ⌜ Buffered side (now store) (now hold) × (at + 8192 ≤ length (now out)) ⌝ }
-    ensures { λ r. ⌜ Leaves (accept-line (kept-in side (now (store .entry)) (now (hold .entry))) (now (unit .entry))) (r .side) (now (store .exit)) (now (hold .entry)) (now (out .entry)) at (r .at) (now (out .exit)) ⌝ }
+    ensures { λ r. ⌜ Leaves (accept-line (kept-in side (now (store .entry)) (now (hold .entry))) (now (unit .entry)) .kept) (r .side) (now (store .exit)) (now (hold .entry)) ⌝ }
+    ensures { λ r. ⌜ Puts (now (out .entry)) at (accept-line (kept-in side (now (store .entry)) (now (hold .entry))) (now (unit .entry)) .line) (r .at) (now (out .exit)) ⌝ }
 {
     let took = drive_call::accept(side, store, unit);
     let verdict = took.verdict;
@@ -137,14 +143,15 @@ fn send(
     hold: &[u8],
     output: &mut [u8],
     errors: u8,
-    information: u64,
+    info: u64,
     out: &mut [u8],
     at: usize,
 ) -> Done
     requires { ⌜ (now t ≡ table) × Buffered side (now store) (now hold) × (length (now output) ≤ 2000) × (at + 8192 ≤ length (now out)) ⌝ }
-    ensures { λ r. ⌜ Leaves (send-line (kept-in side (now (store .entry)) (now (hold .entry))) (length (now (output .entry))) errors information) (r .side) (now (store .entry)) (now (hold .entry)) (now (out .entry)) at (r .at) (now (out .exit)) ⌝ }
+    ensures { λ r. ⌜ Leaves (send-line (kept-in side (now (store .entry)) (now (hold .entry))) (length (now (output .entry))) errors info .kept) (r .side) (now (store .entry)) (now (hold .entry)) ⌝ }
+    ensures { λ r. ⌜ Puts (now (out .entry)) at (send-line (kept-in side (now (store .entry)) (now (hold .entry))) (length (now (output .entry))) errors info .line) (r .at) (now (out .exit)) ⌝ }
 {
-    let sent = drive_call::send(t, side, store, output, errors, information);
+    let sent = drive_call::send(t, side, store, output, errors, info);
     let answer = sent.answer;
     let head = drive_head::put_send(out, at, answer, output);
     put_side(out, head, sent.side, store, hold)
@@ -160,7 +167,8 @@ fn receive(
     at: usize,
 ) -> Done
     requires { ⌜ (now t ≡ table) × Buffered side (now store) (now hold) × (at + 8192 ≤ length (now out)) ⌝ }
-    ensures { λ r. ⌜ Leaves (receive-line (kept-in side (now (store .entry)) (now (hold .entry))) (now (flit .entry))) (r .side) (now (store .entry)) (now (hold .exit)) (now (out .entry)) at (r .at) (now (out .exit)) ⌝ }
+    ensures { λ r. ⌜ Leaves (receive-line (kept-in side (now (store .entry)) (now (hold .entry))) (now (flit .entry)) .kept) (r .side) (now (store .entry)) (now (hold .exit)) ⌝ }
+    ensures { λ r. ⌜ Puts (now (out .entry)) at (receive-line (kept-in side (now (store .entry)) (now (hold .entry))) (now (flit .entry)) .line) (r .at) (now (out .exit)) ⌝ }
 {
     let received = drive_call::receive(t, side, store, hold, flit);
     let answer = received.answer;
@@ -178,7 +186,8 @@ fn poke(
     at: usize,
 ) -> Done
     requires { ⌜ Buffered side (now store) (now hold) × (value ≤ most field) × (at + 8192 ≤ length (now out)) ⌝ }
-    ensures { λ r. ⌜ Leaves (poke-line (kept-in side (now (store .entry)) (now (hold .entry))) field value) (r .side) (now (store .entry)) (now (hold .entry)) (now (out .entry)) at (r .at) (now (out .exit)) ⌝ }
+    ensures { λ r. ⌜ Leaves (poke-line (kept-in side (now (store .entry)) (now (hold .entry))) field value .kept) (r .side) (now (store .entry)) (now (hold .entry)) ⌝ }
+    ensures { λ r. ⌜ Puts (now (out .entry)) at (poke-line (kept-in side (now (store .entry)) (now (hold .entry))) field value .line) (r .at) (now (out .exit)) ⌝ }
 {
     let after = drive_side::poke(side, field, value);
     put_plain(out, at, b"poke refuse=", 0, after, store, hold)
@@ -194,7 +203,8 @@ fn fill(
     at: usize,
 ) -> Done
     requires { ⌜ Buffered side (now store) (now hold) × (at + 8192 ≤ length (now out)) ⌝ }
-    ensures { λ r. ⌜ Leaves (fill-line (kept-in side (now (store .entry)) (now (hold .entry))) offset (now (bytes .entry))) (r .side) (now (store .exit)) (now (hold .entry)) (now (out .entry)) at (r .at) (now (out .exit)) ⌝ }
+    ensures { λ r. ⌜ Leaves (fill-line (kept-in side (now (store .entry)) (now (hold .entry))) offset (now (bytes .entry)) .kept) (r .side) (now (store .exit)) (now (hold .entry)) ⌝ }
+    ensures { λ r. ⌜ Puts (now (out .entry)) at (fill-line (kept-in side (now (store .entry)) (now (hold .entry))) offset (now (bytes .entry)) .line) (r .at) (now (out .exit)) ⌝ }
 {
     let inside = drive_call::fill(side.kept, store, offset, bytes);
     if !inside {
@@ -213,7 +223,8 @@ fn lend(
     at: usize,
 ) -> Done
     requires { ⌜ Buffered side (now store) (now hold) × (lent ≤ 70000) × (held ≤ 2000) × (at + 8192 ≤ length (now out)) ⌝ }
-    ensures { λ r. ⌜ Leaves (lend-line (kept-in side (now (store .entry)) (now (hold .entry))) lent held) (r .side) (now (store .entry)) (now (hold .entry)) (now (out .entry)) at (r .at) (now (out .exit)) ⌝ }
+    ensures { λ r. ⌜ Leaves (lend-line (kept-in side (now (store .entry)) (now (hold .entry))) lent held .kept) (r .side) (now (store .entry)) (now (hold .entry)) ⌝ }
+    ensures { λ r. ⌜ Puts (now (out .entry)) at (lend-line (kept-in side (now (store .entry)) (now (hold .entry))) lent held .line) (r .at) (now (out .exit)) ⌝ }
 {
     let after = drive_side::lend(side, lent, held);
     put_plain(out, at, b"lend refuse=", 0, after, store, hold)
@@ -221,7 +232,8 @@ fn lend(
 
 fn count(side: Side, store: &[u8], hold: &[u8], key: Key, n: u32, out: &mut [u8], at: usize) -> Done
     requires { ⌜ Buffered side (now store) (now hold) × (at + 8192 ≤ length (now out)) ⌝ }
-    ensures { λ r. ⌜ Leaves (count-line (kept-in side (now (store .entry)) (now (hold .entry))) key n) (r .side) (now (store .entry)) (now (hold .entry)) (now (out .entry)) at (r .at) (now (out .exit)) ⌝ }
+    ensures { λ r. ⌜ Leaves (count-line (kept-in side (now (store .entry)) (now (hold .entry))) key n .kept) (r .side) (now (store .entry)) (now (hold .entry)) ⌝ }
+    ensures { λ r. ⌜ Puts (now (out .entry)) at (count-line (kept-in side (now (store .entry)) (now (hold .entry))) key n .line) (r .at) (now (out .exit)) ⌝ }
 {
     let after = drive_side::count(side, key, n);
     put_plain(out, at, b"count refuse=", 0, after, store, hold)
@@ -238,7 +250,8 @@ fn put_plain(
     hold: &[u8],
 ) -> Done
     requires { ⌜ Buffered side (now store) (now hold) × (length (now word) ≤ 20) × (at + 8192 ≤ length (now out)) ⌝ }
-    ensures { λ r. ⌜ Leaves (stated (now (word .entry) ++ decimal refuse) (kept-in side (now (store .entry)) (now (hold .entry)))) (r .side) (now (store .entry)) (now (hold .entry)) (now (out .entry)) at (r .at) (now (out .exit)) ⌝ }
+    ensures { λ r. ⌜ Leaves (stated (now (word .entry) ++ decimal refuse) (kept-in side (now (store .entry)) (now (hold .entry))) .kept) (r .side) (now (store .entry)) (now (hold .entry)) ⌝ }
+    ensures { λ r. ⌜ Puts (now (out .entry)) at (stated (now (word .entry) ++ decimal refuse) (kept-in side (now (store .entry)) (now (hold .entry))) .line) (r .at) (now (out .exit)) ⌝ }
 {
     let head = text::put_field(out, at, word, refuse);
     put_side(out, head, side, store, hold)
@@ -247,7 +260,8 @@ fn put_plain(
 // The state, with the kept buffers, after what comes before it.
 fn put_side(out: &mut [u8], at: usize, side: Side, store: &[u8], hold: &[u8]) -> Done
     requires { ⌜ Buffered side (now store) (now hold) × (at + 1024 ≤ length (now out)) ⌝ }
-    ensures { λ r. ⌜ ((head before : List ℕ) (from : ℕ) → Puts before from head at (now (out .entry)) → Leaves (stated head (kept-in side (now (store .entry)) (now (hold .entry)))) (r .side) (now (store .entry)) (now (hold .entry)) before from (r .at) (now (out .exit))) ⌝ }
+    ensures { λ r. ⌜ Leaves (kept-in side (now (store .entry)) (now (hold .entry))) (r .side) (now (store .entry)) (now (hold .entry)) ⌝ }
+    ensures { λ r. ⌜ Puts (now (out .entry)) at (state-of (kept-in side (now (store .entry)) (now (hold .entry)))) (r .at) (now (out .exit)) ⌝ }
 {
     let kept = side.kept;
     let held = End::HOLD;

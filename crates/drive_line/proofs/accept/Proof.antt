@@ -1,4 +1,4 @@
--- `drive_line::accept` meets its contract. Assumes nothing.
+-- `drive_line::accept` meets its contract.
 use mathlib.Core.Path.{refl, ap, _∙_}
 use Prim.Native.Nat.{ℕ}
 use native.Mathlib.Omega.{arith}
@@ -9,7 +9,7 @@ use Rattle.drive_call.specs.Sides.{accepts, accepts-store}
 use Rattle.drive_call.specs.declared.SideTook.{SideTook}
 use Rattle.drive_call.proofs.Lent.{length-accepts-store}
 use Rattle.drive_line.specs.Lines.{accept-line}
-use Rattle.drive_line.proofs.Leaving.{buffered-call, buffered-store, stored-bytes, keeps, leaves-stated}
+use Rattle.drive_line.proofs.Leaving.{apart, joined, buffered-call, buffered-store, stored-bytes, keeps, leaves-stated}
 use borrow.Author.Needs.{needs}
 use Rattle.drive_line.proofs.accept.Statement.{statement}
 use Rattle.drive_line.proofs.accept.Tie as tie
@@ -51,10 +51,11 @@ returns c =
     let store = take (a .side .kept) (a .store .now) in
     let after = accepts-store (a .side) store (a .unit .now) in
     let b = buffered-store (s .last .1 .0) after (p .0) (s .ensures .1) (length-accepts-store (a .side) store (a .unit .now) ∙ stored-bytes (p .0)) in
-    leaves-stated
+    apart
+    (leaves-stated
     (ap (λ (n : ℕ). key-value "accept refuse=" n) (c .before .before .before .before .before .before .verdict-number .ensures ∙ ap (λ (r : SideTook). verdict-number (r .verdict)) e))
     (keeps (s .result .side) (accepts (a .side) store (a .unit .now) .side) (s .last .1 .0) (a .hold .now) after (take 576 (a .hold .now)) (ap (λ (r : SideTook). r .side) e) (b .1) refl)
-    (c .before .before .put-plain .ensures)
+    (joined (c .before .before .put-plain .ensures)))
 
 pub accept-spec : {M : Type 1} → statement M
 accept-spec =

@@ -1,4 +1,4 @@
--- `drive_line::answer` meets its contract, command by command. Assumes nothing.
+-- `drive_line::answer` meets its contract, command by command.
 use mathlib.Core.Path.{refl, ap, subst, _∙_}
 use Prim.Native.Nat.{ℕ, _-_}
 use native.Mathlib.Nat.{sub-zero}
@@ -8,7 +8,7 @@ use lib.Seq.{length-take-le}
 use Rattle.drive_script.specs.Script.{in-range, bytes-in}
 use Rattle.drive_script.specs.declared.Command.{Command}
 use Rattle.drive_line.specs.Lines.{kept-in, commanded, bad, accept-line, send-line, receive-line, fill-line, ticket-line}
-use Rattle.drive_line.proofs.Leaving.{leaves-did}
+use Rattle.drive_line.proofs.Leaving.{apart, joined, leaves-did, leaves-alone, leaves-bad}
 use borrow.Author.Needs.{needs}
 use Rattle.drive_line.proofs.answer.Statement.{statement}
 use Rattle.drive_line.proofs.answer.Tie as tie
@@ -148,8 +148,8 @@ unfolding commanded
 returns c =
     let a = c .before .before .before .before .before .before .before .before .before .before .args in
     let k = kept-in (a .side) (a .store .now) (a .hold .now) in
-    leaves-did k (a .bytes .now) (a .command) _ (bad k) (c .before .before .before .before .enum-told .given .1) refl
-    (c .before .before .bad .ensures (a .store .now) (a .hold .now) (c .before .before .before .before .before .before .before .before .before .before .pre .1))
+    apart (leaves-did k (a .bytes .now) (a .command) _ (bad k) (c .before .before .before .before .enum-told .given .1) refl
+    (leaves-bad (c .before .before .before .before .before .before .before .before .before .before .pre .1) (c .before .before .bad .ensures)))
 
 same-length-2 : tie.Need-same-length-2
 same-length-2 c = search needs
@@ -164,7 +164,7 @@ returns-2 : tie.Need-returns-2
 unfolding commanded
 returns-2 c =
     let a = c .before .before .before .before .before .before .before .before .before .before .before .before .before .before .before .before .before .args in
-    leaves-did (kept-in (a .side) (a .store .now) (a .hold .now)) (a .bytes .now) (a .command) _ _ (c .before .before .before .before .before .before .before .before .before .before .before .command .given .1) refl (c .before .before .before .before .before .before .start .ensures)
+    apart (leaves-did (kept-in (a .side) (a .store .now) (a .hold .now)) (a .bytes .now) (a .command) _ _ (c .before .before .before .before .before .before .before .before .before .before .before .command .given .1) refl (joined (c .before .before .before .before .before .before .start .ensures)))
 
 same-length-5 : tie.Need-same-length-5
 same-length-5 c = search needs
@@ -184,7 +184,7 @@ returns-3 c =
     let a = c .before .before .before .before .before .before .before .before .before .before .before .before .before .before .before .before .before .args in
     let k = kept-in (a .side) (a .store .now) (a .hold .now) in
     let told = c .before .before .before .before .before .before .before .before .before .before .before .command2 .given in
-    leaves-did k (a .bytes .now) (a .command) _ _ (told .1) (ap (λ (m : ℕ). accept-line k (take m (a .bytes .now))) (sub-zero (told .0 .0))) (c .before .before .before .before .accept .ensures)
+    apart (leaves-did k (a .bytes .now) (a .command) _ _ (told .1) (ap (λ (m : ℕ). accept-line k (take m (a .bytes .now))) (sub-zero (told .0 .0))) (joined (c .before .before .before .before .accept .ensures)))
 
 same-length-9 : tie.Need-same-length-9
 same-length-9 c = search needs
@@ -206,8 +206,8 @@ returns-4 c =
     let k = kept-in (a .side) (a .store .now) (a .hold .now) in
     let told = c .before .before .before .before .before .before .before .before .before .before .command3 .given in
     let h = subst (λ (x : Command). in-range x) (told .1) (p .3) in
-    leaves-did k (a .bytes .now) (a .command) _ _ (told .1)
-    (ap (λ (m : ℕ). send-line k m (told .0 .1 .0) (told .0 .1 .1 .0)) (length-take-le (told .0 .0 - 0) (a .bytes .now) (omega (arith, p .2)) ∙ sub-zero (told .0 .0))) (c .before .before .before .before .send .ensures)
+    apart (leaves-did k (a .bytes .now) (a .command) _ _ (told .1)
+    (ap (λ (m : ℕ). send-line k m (told .0 .1 .0) (told .0 .1 .1 .0)) (length-take-le (told .0 .0 - 0) (a .bytes .now) (omega (arith, p .2)) ∙ sub-zero (told .0 .0))) (joined (c .before .before .before .before .send .ensures)))
 
 same-length-13 : tie.Need-same-length-13
 same-length-13 c = search needs
@@ -227,7 +227,7 @@ returns-5 c =
     let a = c .before .before .before .before .before .before .before .before .before .before .before .before .before .before .before .before .before .args in
     let k = kept-in (a .side) (a .store .now) (a .hold .now) in
     let told = c .before .before .before .before .before .before .before .before .before .before .before .command4 .given in
-    leaves-did k (a .bytes .now) (a .command) _ _ (told .1) (ap (λ (m : ℕ). receive-line k (take m (a .bytes .now))) (sub-zero (told .0 .0))) (c .before .before .before .before .receive .ensures)
+    apart (leaves-did k (a .bytes .now) (a .command) _ _ (told .1) (ap (λ (m : ℕ). receive-line k (take m (a .bytes .now))) (sub-zero (told .0 .0))) (joined (c .before .before .before .before .receive .ensures)))
 
 same-length-17 : tie.Need-same-length-17
 same-length-17 c = search needs
@@ -242,7 +242,7 @@ returns-6 : tie.Need-returns-6
 unfolding commanded
 returns-6 c =
     let a = c .before .before .before .before .before .before .before .before .before .before .before .before .before .args in
-    leaves-did (kept-in (a .side) (a .store .now) (a .hold .now)) (a .bytes .now) (a .command) _ _ (c .before .before .before .before .before .before .before .command5 .given .1) refl (c .before .before .poke .ensures)
+    apart (leaves-did (kept-in (a .side) (a .store .now) (a .hold .now)) (a .bytes .now) (a .command) _ _ (c .before .before .before .before .before .before .before .command5 .given .1) refl (joined (c .before .before .poke .ensures)))
 
 same-length-20 : tie.Need-same-length-20
 same-length-20 c = search needs
@@ -262,7 +262,7 @@ returns-7 c =
     let a = c .before .before .before .before .before .before .before .before .before .before .before .before .before .before .before .before .before .args in
     let k = kept-in (a .side) (a .store .now) (a .hold .now) in
     let told = c .before .before .before .before .before .before .before .before .before .before .before .command6 .given in
-    leaves-did k (a .bytes .now) (a .command) _ _ (told .1) (ap (λ (m : ℕ). fill-line k (told .0 .0) (take m (a .bytes .now))) (sub-zero (told .0 .1 .0))) (c .before .before .before .before .fill .ensures)
+    apart (leaves-did k (a .bytes .now) (a .command) _ _ (told .1) (ap (λ (m : ℕ). fill-line k (told .0 .0) (take m (a .bytes .now))) (sub-zero (told .0 .1 .0))) (joined (c .before .before .before .before .fill .ensures)))
 
 same-length-24 : tie.Need-same-length-24
 same-length-24 c = search needs
@@ -277,7 +277,7 @@ returns-8 : tie.Need-returns-8
 unfolding commanded
 returns-8 c =
     let a = c .before .before .before .before .before .before .before .before .before .before .before .before .before .args in
-    leaves-did (kept-in (a .side) (a .store .now) (a .hold .now)) (a .bytes .now) (a .command) _ _ (c .before .before .before .before .before .before .before .command7 .given .1) refl (c .before .before .lend .ensures)
+    apart (leaves-did (kept-in (a .side) (a .store .now) (a .hold .now)) (a .bytes .now) (a .command) _ _ (c .before .before .before .before .before .before .before .command7 .given .1) refl (joined (c .before .before .lend .ensures)))
 
 same-length-27 : tie.Need-same-length-27
 same-length-27 c = search needs
@@ -287,8 +287,8 @@ unfolding commanded
 returns-9 c =
     let a = c .before .before .before .before .before .before .before .before .before .before .args in
     let k = kept-in (a .side) (a .store .now) (a .hold .now) in
-    leaves-did k (a .bytes .now) (a .command) _ (record { kept = k; line = ticket-line (a .side) }) (c .before .before .before .before .enum-told2 .given .1) refl
-    (c .before .before .ticket .ensures (a .store .now) (a .hold .now) (c .before .before .before .before .before .before .before .before .before .before .pre .1))
+    apart (leaves-did k (a .bytes .now) (a .command) _ (record { kept = k; line = ticket-line (a .side) }) (c .before .before .before .before .enum-told2 .given .1) refl
+    (leaves-alone (c .before .before .before .before .before .before .before .before .before .before .pre .1) (c .before .before .ticket .ensures)))
 
 same-length-28 : tie.Need-same-length-28
 same-length-28 c = search needs
@@ -303,7 +303,7 @@ returns-10 : tie.Need-returns-10
 unfolding commanded
 returns-10 c =
     let a = c .before .before .before .before .before .before .before .before .before .before .before .before .before .args in
-    leaves-did (kept-in (a .side) (a .store .now) (a .hold .now)) (a .bytes .now) (a .command) _ _ (c .before .before .before .before .before .before .before .command8 .given .1) refl (c .before .before .count .ensures)
+    apart (leaves-did (kept-in (a .side) (a .store .now) (a .hold .now)) (a .bytes .now) (a .command) _ _ (c .before .before .before .before .before .before .before .command8 .given .1) refl (joined (c .before .before .count .ensures)))
 
 pub answer-spec : {M : Type 1} → statement M
 answer-spec =

@@ -1,5 +1,5 @@
--- `drive_line::bad` meets its contract. Assumes nothing.
-use Rattle.drive_line.proofs.Leaving.{leaves-bad}
+-- `drive_line::bad` meets its contract.
+use mathlib.Core.Path.{refl}
 use borrow.Author.Needs.{needs}
 use Rattle.drive_line.proofs.bad.Statement.{statement}
 use Rattle.drive_line.proofs.bad.Tie as tie
@@ -14,7 +14,7 @@ same-length : tie.Need-same-length
 same-length c = search needs
 
 returns : tie.Need-returns
-returns c = λ store hold b. leaves-bad b (c .before .before .put .ensures)
+returns c = (refl, c .before .before .put .ensures)
 
 pub bad-spec : {M : Type 1} → statement M
 bad-spec = tie.close (tie.spec slice-aggregate-put put-requires same-length returns)

@@ -1,10 +1,10 @@
--- `drive_line::fill` meets its contract. Assumes nothing.
+-- `drive_line::fill` meets its contract.
 use mathlib.Core.Path.{refl, sym, ap, _∙_}
 use native.Mathlib.Omega.{arith}
 use lib.ListN.{take}
 use borrow.Author.Tests.{not-true, not-false}
 use Rattle.drive_line.specs.Lines.{bad, kept-in}
-use Rattle.drive_line.proofs.Leaving.{buffered-store, stored-bytes, keeps, filled, length-filled, leaves-as, leaves-stated, leaves-filled, leaves-unfilled}
+use Rattle.drive_line.proofs.Leaving.{apart, joined, leaves-bad, buffered-store, stored-bytes, keeps, filled, length-filled, leaves-as, leaves-stated, leaves-filled, leaves-unfilled}
 use borrow.Author.Needs.{needs}
 use Rattle.drive_line.proofs.fill.Statement.{statement}
 use Rattle.drive_line.proofs.fill.Tie as tie
@@ -28,8 +28,9 @@ returns c =
     let f = c .before .before .before .before .before .before .before .fill in
     let k = kept-in (a .side) (a .store .now) (a .hold .now) in
     let b = buffered-store (f .last .1 .0) (filled k (a .offset) (a .bytes .now)) (p .0) (f .ensures .1) (length-filled k (a .offset) (a .bytes .now) ∙ stored-bytes (p .0)) in
-    leaves-unfilled k (a .offset) (a .bytes .now) (sym (f .ensures .0) ∙ not-true (f .result) (c .before .before .before .before .if1 .taken))
-    (leaves-as (ap bad (keeps (a .side) (a .side) (f .last .1 .0) (a .hold .now) (filled k (a .offset) (a .bytes .now)) (take 576 (a .hold .now)) refl (b .1) refl)) (c .before .before .bad .ensures (f .last .1 .0) (a .hold .now) (b .0)))
+    apart
+    (leaves-unfilled k (a .offset) (a .bytes .now) (sym (f .ensures .0) ∙ not-true (f .result) (c .before .before .before .before .if1 .taken))
+    (leaves-as (ap bad (keeps (a .side) (a .side) (f .last .1 .0) (a .hold .now) (filled k (a .offset) (a .bytes .now)) (take 576 (a .hold .now)) refl (b .1) refl)) (leaves-bad (b .0) (c .before .before .bad .ensures))))
 
 slice-aggregate-put-plain : tie.Need-slice-aggregate-put-plain
 slice-aggregate-put-plain c = search needs
@@ -56,8 +57,9 @@ returns-2 c =
     let f = c .before .before .before .before .before .before .before .before .before .fill in
     let k = kept-in (a .side) (a .store .now) (a .hold .now) in
     let b = buffered-store (f .last .1 .0) (filled k (a .offset) (a .bytes .now)) (p .0) (f .ensures .1) (length-filled k (a .offset) (a .bytes .now) ∙ stored-bytes (p .0)) in
-    leaves-filled k (a .offset) (a .bytes .now) (sym (f .ensures .0) ∙ not-false (f .result) (c .before .before .before .before .before .before .if1 .left))
-    (leaves-stated refl (keeps (a .side) (a .side) (f .last .1 .0) (a .hold .now) (filled k (a .offset) (a .bytes .now)) (take 576 (a .hold .now)) refl (b .1) refl) (c .before .before .put-plain .ensures))
+    apart
+    (leaves-filled k (a .offset) (a .bytes .now) (sym (f .ensures .0) ∙ not-false (f .result) (c .before .before .before .before .before .before .if1 .left))
+    (leaves-stated refl (keeps (a .side) (a .side) (f .last .1 .0) (a .hold .now) (filled k (a .offset) (a .bytes .now)) (take 576 (a .hold .now)) refl (b .1) refl) (joined (c .before .before .put-plain .ensures))))
 
 pub fill-spec : {M : Type 1} → statement M
 fill-spec =

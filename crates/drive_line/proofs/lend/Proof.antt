@@ -1,10 +1,10 @@
--- `drive_line::lend` meets its contract. Assumes nothing.
+-- `drive_line::lend` meets its contract.
 use mathlib.Core.Path.{refl}
 use native.Mathlib.Omega.{arith}
 use lib.ListN.{take}
 use Rattle.drive_side.specs.Settings.{side-lent}
 use Rattle.drive_line.specs.Lines.{lend-line}
-use Rattle.drive_line.proofs.Leaving.{buffered-lent, keeps, leaves-stated}
+use Rattle.drive_line.proofs.Leaving.{apart, joined, buffered-lent, keeps, leaves-stated}
 use borrow.Author.Needs.{needs}
 use Rattle.drive_line.proofs.lend.Statement.{statement}
 use Rattle.drive_line.proofs.lend.Tie as tie
@@ -28,7 +28,7 @@ unfolding side-lent lend-line
 returns c =
     let a = c .before .before .before .before .before .before .before .before .before .args in
     let s = c .before .before .before .before .before .lend in
-    leaves-stated refl (keeps (s .result) (side-lent (a .side) (a .lent) (a .held)) (a .store .now) (a .hold .now) (take (a .side .kept) (a .store .now)) (take 576 (a .hold .now)) (s .ensures) refl refl) (c .before .before .put-plain .ensures)
+    apart (leaves-stated refl (keeps (s .result) (side-lent (a .side) (a .lent) (a .held)) (a .store .now) (a .hold .now) (take (a .side .kept) (a .store .now)) (take 576 (a .hold .now)) (s .ensures) refl refl) (joined (c .before .before .put-plain .ensures)))
 
 pub lend-spec : {M : Type 1} → statement M
 lend-spec =

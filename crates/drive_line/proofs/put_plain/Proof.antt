@@ -1,8 +1,7 @@
--- `drive_line::put_plain` meets its contract: two texts, one after the other. Assumes nothing.
-use mathlib.Core.List.{_++_}
+-- `drive_line::put_plain` meets its contract: two texts, one after the other.
 use native.Mathlib.Omega.{arith}
-use Rattle.text.specs.Text.{decimal}
 use Rattle.text.proofs.Laws.{length-decimal, field-end}
+use Rattle.drive_line.proofs.Leaving.{apart, leaves-side}
 use borrow.Author.Needs.{needs}
 use Rattle.drive_line.proofs.put_plain.Statement.{statement}
 use Rattle.drive_line.proofs.put_plain.Tie as tie
@@ -24,8 +23,7 @@ same-length c = search needs
 
 returns : tie.Need-returns
 returns c =
-    let a = c .before .before .before .before .before .before .before .before .before .before .before .before .args in
-    c .before .before .put-side .ensures (a .word .now ++ decimal (a .refuse)) (a .out .now) (a .at) (c .before .before .before .before .before .before .put-field .ensures)
+    apart (leaves-side (c .before .before .before .before .before .before .put-field .ensures) (c .before .before .put-side .ensures))
 
 pub put-plain-spec : {M : Type 1} → statement M
 put-plain-spec =

@@ -1,11 +1,10 @@
--- `drive_line::put_side` meets its contract. Assumes nothing.
-use mathlib.Core.Path.{ap}
+-- `drive_line::put_side` meets its contract.
+use mathlib.Core.Path.{refl, ap}
 use Prim.Native.Nat.{ℕ}
 use native.Mathlib.Nat.{sub-zero}
 use lib.ListN.{take}
 use Rattle.text.proofs.Laws.{puts-as}
 use Rattle.drive_state.specs.Show.{state-text}
-use Rattle.drive_line.proofs.Leaving.{leaves-side}
 use borrow.Author.Needs.{needs}
 use Rattle.drive_line.proofs.put_side.Statement.{statement}
 use Rattle.drive_line.proofs.put_side.Tie as tie
@@ -36,10 +35,10 @@ same-length c = search needs
 
 returns : tie.Need-returns
 returns c =
-    let a = c .before .before .before .before .before .before .before .before .before .args in
-    λ head before from p.
-    leaves-side (c .before .before .before .before .before .before .before .before .before .pre .0) p
-    (puts-as (ap (λ (m : ℕ). state-text (a .side .end) (take m (a .store .now)) (take 576 (a .hold .now))) (sub-zero (a .side .kept))) (c .before .before .put-state .ensures))
+    let a = c .before .before .before .before .before .before .before .before .before .args in (
+      record { kept = refl; buffers = c .before .before .before .before .before .before .before .before .before .pre .0 },
+      puts-as (ap (λ (m : ℕ). state-text (a .side .end) (take m (a .store .now)) (take 576 (a .hold .now))) (sub-zero (a .side .kept))) (c .before .before .put-state .ensures),
+    )
 
 pub put-side-spec : {M : Type 1} → statement M
 put-side-spec =

@@ -1,4 +1,4 @@
--- `drive_line::receive` meets its contract. Assumes nothing.
+-- `drive_line::receive` meets its contract.
 use mathlib.Core.Path.{refl, ap, _∙_}
 use native.Mathlib.Omega.{arith}
 use lib.ListN.{take}
@@ -8,7 +8,7 @@ use Rattle.drive_call.proofs.Lent.{length-receives-hold}
 use Rattle.drive_head.specs.Heads.{receive-head}
 use Rattle.drive_head.proofs.Laws.{receive-head-short}
 use Rattle.drive_line.specs.Lines.{receive-line}
-use Rattle.drive_line.proofs.Leaving.{buffered-call, buffered-hold, held-bytes, keeps, leaves-stated}
+use Rattle.drive_line.proofs.Leaving.{apart, leaves-side, buffered-call, buffered-hold, held-bytes, keeps, leaves-stated}
 use borrow.Author.Needs.{needs}
 use Rattle.drive_line.proofs.receive.Statement.{statement}
 use Rattle.drive_line.proofs.receive.Tie as tie
@@ -50,10 +50,11 @@ returns c =
     let hold = take 576 (a .hold .now) in
     let after = receives-hold (a .side) store hold (a .flit .now) in
     let b = buffered-hold (s .last .1 .1 .1 .0) after (p .1) (s .ensures .1) (length-receives-hold (a .side) store hold (a .flit .now) ∙ held-bytes (p .1)) in
-    leaves-stated
+    apart
+    (leaves-stated
     (ap (λ (r : SideReceived). receive-head (r .answer)) e)
     (keeps (s .result .side) (receives (a .side) store hold (a .flit .now) .side) (a .store .now) (s .last .1 .1 .1 .0) store after (ap (λ (r : SideReceived). r .side) e) refl (b .1))
-    (c .before .before .put-side .ensures (receive-head (s .result .answer)) (a .out .now) (a .at) (c .before .before .before .before .before .before .before .put-receive .ensures))
+    (leaves-side (c .before .before .before .before .before .before .before .put-receive .ensures) (c .before .before .put-side .ensures)))
 
 pub receive-spec : {M : Type 1} → statement M
 receive-spec =

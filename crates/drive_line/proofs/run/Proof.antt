@@ -1,4 +1,4 @@
--- `drive_line::run` meets its contract: the command is answered, and its bytes are cleared. Assumes nothing.
+-- `drive_line::run` meets its contract: the command is answered, and its bytes are cleared.
 use mathlib.Core.Path.{_∙_}
 use native.Mathlib.Omega.{arith}
 use Rattle.drive_call.proofs.Lent.{clean-whole, cleared-all}
@@ -30,7 +30,7 @@ same-length-4 c = search needs
 returns : tie.Need-returns
 returns c =
     let n = c .before .before .before .before .before .before .before .before .before .before .before .before .answer .kept .1 .1 .1 .1 .1 .0 ∙ c .before .before .before .before .before .before .before .before .before .before .before .before .before .before .before .before .before .before .before .before .before .pre .2 in
-    (c .before .before .before .before .before .before .before .before .before .before .before .before .answer .ensures, cleared-all (c .before .before .clear .ensures) n)
+    (c .before .before .before .before .before .before .before .before .before .before .before .before .answer .ensures .0, (c .before .before .before .before .before .before .before .before .before .before .before .before .answer .ensures .1, cleared-all (c .before .before .clear .ensures) n))
 
 pub run-spec : {M : Type 1} → statement M
 run-spec =

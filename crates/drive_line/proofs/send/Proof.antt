@@ -1,4 +1,4 @@
--- `drive_line::send` meets its contract. Assumes nothing.
+-- `drive_line::send` meets its contract.
 use mathlib.Core.List.{List}
 use mathlib.Core.Path.{refl, ap, ap₂, subst, sym}
 use Prim.Native.Nat.{ℕ, _*_, _≤_}
@@ -10,7 +10,7 @@ use Rattle.drive_call.specs.declared.SideSent.{SideSent}
 use Rattle.drive_head.specs.Heads.{send-head}
 use Rattle.drive_head.proofs.Laws.{send-head-short}
 use Rattle.drive_line.specs.Lines.{send-line}
-use Rattle.drive_line.proofs.Leaving.{buffered-call, keeps, leaves-stated}
+use Rattle.drive_line.proofs.Leaving.{apart, leaves-side, buffered-call, keeps, leaves-stated}
 use Rattle.drive_line.proofs.Lengths.{sent-inside}
 use borrow.Author.Needs.{needs}
 use Rattle.drive_line.proofs.send.Statement.{statement}
@@ -55,10 +55,11 @@ returns c =
     let s = c .before .before .before .before .before .before .before .before .before .before .before .send in
     let e = s .ensures .0 in
     let store = take (a .side .kept) (a .store .now) in
-    leaves-stated
+    apart
+    (leaves-stated
     (ap₂ (λ (r : SideSent) (l : List ℕ). send-head (r .answer) l) e (s .ensures .1))
     (keeps (s .result .side) (sends (a .side) store (length (a .output .now)) .side) (a .store .now) (a .hold .now) store (take 576 (a .hold .now)) (ap (λ (r : SideSent). r .side) e) refl refl)
-    (c .before .before .put-side .ensures (send-head (s .result .answer) (s .last .1 .1 .1 .0)) (a .out .now) (a .at) (c .before .before .before .before .before .before .put-send .ensures))
+    (leaves-side (c .before .before .before .before .before .before .put-send .ensures) (c .before .before .put-side .ensures)))
 
 pub send-spec : {M : Type 1} → statement M
 send-spec =

@@ -1,4 +1,4 @@
--- `drive_line::start` meets its contract. Assumes nothing.
+-- `drive_line::start` meets its contract.
 use mathlib.Core.Path.{ap, _∙_}
 use Prim.Native.Nat.{ℕ}
 use native.Mathlib.Omega.{arith}
@@ -7,7 +7,7 @@ use Rattle.end_state.specs.State.{verdict-number}
 use Rattle.drive_call.specs.Sides.{repeated}
 use Rattle.drive_call.specs.declared.SideTook.{SideTook}
 use Rattle.drive_line.specs.Lines.{start-line}
-use Rattle.drive_line.proofs.Leaving.{buffered-zeros, leaves-stated}
+use Rattle.drive_line.proofs.Leaving.{apart, joined, buffered-zeros, leaves-stated}
 use borrow.Author.Needs.{needs}
 use Rattle.drive_line.proofs.start.Statement.{statement}
 use Rattle.drive_line.proofs.start.Tie as tie
@@ -52,10 +52,11 @@ returns c =
     buffered-zeros (a .bytes) (s .result .side) (s .last .1 .0) (s .last .1 .1 .0) (p .1) (ap (λ (r : SideTook). r .side) e)
     (s .ensures .1 .0 ∙ ap (λ (n : ℕ). repeated n 0) (p .0 .store-size))
     (s .ensures .1 .1 ∙ ap (λ (n : ℕ). repeated n 0) (p .0 .hold-size)) in
-    leaves-stated
+    apart
+    (leaves-stated
     (ap (λ (n : ℕ). key-value "start refuse=" n) (c .before .before .before .before .before .before .before .verdict-number .ensures ∙ ap (λ (r : SideTook). verdict-number (r .verdict)) e))
     (b .1)
-    (c .before .before .put-plain .ensures)
+    (joined (c .before .before .put-plain .ensures)))
 
 pub start-spec : {M : Type 1} → statement M
 start-spec =
