@@ -4,13 +4,14 @@ use mathlib.Core.List.{List, [], _∷_, _++_}
 use mathlib.Core.Path.{_≡_}
 use Prim.Native.Nat.{ℕ, _≤_}
 use lib.Dec.{leb, ltb, eqb}
-use lib.ListN.{length, take}
+use lib.ListN.{length, take, drop}
 use Rattle.text.specs.Text.{Puts}
 use Rattle.drive_name.specs.declared.Which.{Which}
 use Rattle.drive_name.specs.declared.Which.the-variants as which
 use Rattle.drive_script.specs.Script.{line-of, bytes-of}
 use Rattle.drive_script.specs.declared.Command.{Command}
-use Rattle.drive_call.specs.Sides.{Clean, repeated}
+use Rattle.drive_side.specs.declared.Side.{Side}
+use Rattle.drive_call.specs.Sides.{Clean}
 use Rattle.drive_line.specs.Lines.{Kept, bad-line, commanded, kept-in, Buffered}
 use Rattle.drive_pair.specs.declared.Pair.{Pair}
 
@@ -49,23 +50,45 @@ byte s c = cond (eqb c 10) (ended s) (record { state = record { a = s .a; b = s 
 
 -- ---- what stands in the buffers
 
--- the state of two ends in their buffers, and of the line in its own
-abbrev pub state-in : Pair → List ℕ → List ℕ → List ℕ → List ℕ → List ℕ → State
-state-in d store-a hold-a store-b hold-b line =
-    record { a = kept-in (d .a) store-a hold-a; b = kept-in (d .b) store-b hold-b; line = take (d .length) line }
+-- the end that a line names
+unfoldable pub side-of : Pair → Which → Side
+side-of d which.A = d .a
+side-of d which.B = d .b
 
--- both ends are in their buffers, and the line in its own; every byte past what is kept is 0, and every byte of the buffer for HEX
-pub record Ready (d : Pair) (stored-a held-a stored-b held-b input unit : List ℕ) : Type 0 where
-  pub a : Buffered (d .a) stored-a held-a
-  pub b : Buffered (d .b) stored-b held-b
+-- both after its line
+unfoldable pub with-side : Pair → Which → Side → Pair
+with-side d which.A side = record { a = side; b = d .b; length = 0 }
+with-side d which.B side = record { a = d .a; b = side; length = 0 }
+
+-- a buffer of both ends has a part of so many bytes for each, end a's first
+unfoldable pub part-of : Which → ℕ → List ℕ → List ℕ
+part-of which.A bytes both = take bytes both
+part-of which.B bytes both = drop bytes both
+
+unfoldable pub begins-at : Which → ℕ → ℕ
+begins-at which.A bytes = 0
+begins-at which.B bytes = bytes
+
+-- the state of two ends in their buffers, and of the line in its own
+abbrev pub state-in : Pair → List ℕ → List ℕ → List ℕ → State
+state-in d stores holds line =
+    record {
+      a = kept-in (d .a) (part-of which.A 70000 stores) (part-of which.A 2000 holds);
+      b = kept-in (d .b) (part-of which.B 70000 stores) (part-of which.B 2000 holds);
+      line = take (d .length) line;
+    }
+
+-- both ends are in their buffers, and the line in its own; every byte past what is kept is 0
+pub record Ready (d : Pair) (stores holds input : List ℕ) : Type 0 where
+  pub a : Buffered (d .a) (part-of which.A 70000 stores) (part-of which.A 2000 holds)
+  pub b : Buffered (d .b) (part-of which.B 70000 stores) (part-of which.B 2000 holds)
   pub line : d .length ≤ 4097
   pub line-size : length input ≡ 4097
   pub line-clean : Clean (d .length) input
-  pub bytes : unit ≡ repeated 2000 0
 
 -- what a session leaves stands in the buffers, and its lines are put
-pub record Goes (s : PairStep) (d : Pair) (store-a hold-a store-b hold-b line bytes out : List ℕ) (at next : ℕ) (after : List ℕ) : Type 0 where
-  pub state : state-in d store-a hold-a store-b hold-b line ≡ s .state
+pub record Goes (s : PairStep) (d : Pair) (stores holds line out : List ℕ) (at next : ℕ) (after : List ℕ) : Type 0 where
+  pub state : state-in d stores holds line ≡ s .state
   pub lines : Puts out at (s .lines) next after
-  pub ready : Ready d store-a hold-a store-b hold-b line bytes
+  pub ready : Ready d stores holds line
   pub inside : next ≤ length after

@@ -10,7 +10,7 @@ ghost use Rattle.crc.specs.Register.{table};
 ghost use Rattle.drive_script.specs.Script.{in-range, bytes-in};
 ghost use Rattle.drive_call.specs.Sides.{Clean};
 ghost use Rattle.drive_line.specs.Lines.{Kept};
-ghost use Rattle.drive_pair.specs.Pair.{answered, ended, byte, longer, state-in, Ready, Goes};
+ghost use Rattle.drive_pair.specs.Pair.{State, answered, ended, byte, longer, side-of, with-side, begins-at, state-in, Ready, Goes};
 
 // What is kept beside the buffers: the two ends, and the bytes of the line so far.
 pub struct Pair {
@@ -25,25 +25,29 @@ pub struct Stepped {
     pub at: usize,
 }
 
+// The bytes of an end's store buffer, and of its hold buffer. Both ends' buffers are one: end a's comes first.
+const STORE: usize = 70000;
+
+const HOLD: usize = 2000;
+
 // One byte of the input.
 pub fn step(
     t: &[u64; 256],
     d: Pair,
-    store_a: &mut [u8],
-    hold_a: &mut [u8],
-    store_b: &mut [u8],
-    hold_b: &mut [u8],
+    stores: &mut [u8],
+    holds: &mut [u8],
     line: &mut [u8],
-    bytes: &mut [u8],
     c: u8,
     out: &mut [u8],
     at: usize,
 ) -> Stepped
-    requires { ⌜ (now t ≡ table) × Ready d (now «store_a») (now «hold_a») (now «store_b») (now «hold_b») (now line) (now bytes) × (at + 8192 ≤ length (now out)) ⌝ }
-    ensures { λ r. ⌜ Goes (byte (state-in d (now («store_a» .entry)) (now («hold_a» .entry)) (now («store_b» .entry)) (now («hold_b» .entry)) (now (line .entry))) c) (r .pair) (now («store_a» .exit)) (now («hold_a» .exit)) (now («store_b» .exit)) (now («hold_b» .exit)) (now (line .exit)) (now (bytes .exit)) (now (out .entry)) at (r .at) (now (out .exit)) ⌝ }
+    ghost { State }
+    requires { λ s. ⌜ state-in d (now stores) (now holds) (now line) ≡ s ⌝ }
+    requires { λ _. ⌜ (now t ≡ table) × Ready d (now stores) (now holds) (now line) × (at + 8192 ≤ length (now out)) ⌝ }
+    ensures { λ s r. ⌜ Goes (byte s c) (r .pair) (now (stores .exit)) (now (holds .exit)) (now (line .exit)) (now (out .entry)) at (r .at) (now (out .exit)) ⌝ }
 {
     if c == 10 {
-        return end_line(t, d, store_a, hold_a, store_b, hold_b, line, bytes, out, at);
+        return end_line(t, d, stores, holds, line, out, at);
     }
     let n = remember(d.length, line, c);
     let next = with_length(d, n);
@@ -87,40 +91,72 @@ pub fn with_no_line(a: Side, b: Side) -> Pair
 pub fn end_line(
     t: &[u64; 256],
     d: Pair,
-    store_a: &mut [u8],
-    hold_a: &mut [u8],
-    store_b: &mut [u8],
-    hold_b: &mut [u8],
+    stores: &mut [u8],
+    holds: &mut [u8],
     line: &mut [u8],
-    bytes: &mut [u8],
     out: &mut [u8],
     at: usize,
 ) -> Stepped
-    requires { ⌜ (now t ≡ table) × Ready d (now «store_a») (now «hold_a») (now «store_b») (now «hold_b») (now line) (now bytes) × (at + 8192 ≤ length (now out)) ⌝ }
-    ensures { λ r. ⌜ Goes (ended (state-in d (now («store_a» .entry)) (now («hold_a» .entry)) (now («store_b» .entry)) (now («hold_b» .entry)) (now (line .entry)))) (r .pair) (now («store_a» .exit)) (now («hold_a» .exit)) (now («store_b» .exit)) (now («hold_b» .exit)) (now (line .exit)) (now (bytes .exit)) (now (out .entry)) at (r .at) (now (out .exit)) ⌝ }
+    ghost { State }
+    requires { λ s. ⌜ state-in d (now stores) (now holds) (now line) ≡ s ⌝ }
+    requires { λ _. ⌜ (now t ≡ table) × Ready d (now stores) (now holds) (now line) × (at + 8192 ≤ length (now out)) ⌝ }
+    ensures { λ s r. ⌜ Goes (ended s) (r .pair) (now (stores .exit)) (now (holds .exit)) (now (line .exit)) (now (out .entry)) at (r .at) (now (out .exit)) ⌝ }
 {
     let n = d.length;
-    let read = read_command(n, line, bytes);
+    let mut bytes = [0u8; 2000];
+    let read = read_command(n, line, &mut bytes);
     drive_call::clear(line, 0, n);
     let which = read.which;
     let command = read.command;
+    let side = side_of(d, which);
+    let store = begins_at(which, STORE);
+    let store_end = store + STORE;
+    let hold = begins_at(which, HOLD);
+    let hold_end = hold + HOLD;
+    let done = drive_line::run(
+        t,
+        side,
+        command,
+        &mut stores[store..store_end],
+        &mut holds[hold..hold_end],
+        &mut bytes,
+        out,
+        at,
+    );
+    let pair = with_side(d, which, done.side);
+    Stepped {
+        pair: pair,
+        at: done.at,
+    }
+}
+
+// The end that a line names.
+fn side_of(d: Pair, which: Which) -> Side
+    ensures { λ r. ⌜ r ≡ side-of d which ⌝ }
+{
     match which {
-        Which::A => {
-            let done = drive_line::run(t, d.a, command, store_a, hold_a, bytes, out, at);
-            let pair = with_no_line(done.side, d.b);
-            Stepped {
-                pair: pair,
-                at: done.at,
-            }
-        }
-        Which::B => {
-            let done = drive_line::run(t, d.b, command, store_b, hold_b, bytes, out, at);
-            let pair = with_no_line(d.a, done.side);
-            Stepped {
-                pair: pair,
-                at: done.at,
-            }
-        }
+        Which::A => d.a,
+        Which::B => d.b,
+    }
+}
+
+// The place of its part in a buffer of both ends, a part having so many bytes.
+fn begins_at(which: Which, bytes: usize) -> usize
+    ensures { λ r. ⌜ r ≡ begins-at which bytes ⌝ }
+{
+    match which {
+        Which::A => 0,
+        Which::B => bytes,
+    }
+}
+
+// After the line that named it.
+fn with_side(d: Pair, which: Which, side: Side) -> Pair
+    ensures { λ r. ⌜ r ≡ with-side d which side ⌝ }
+{
+    match which {
+        Which::A => with_no_line(side, d.b),
+        Which::B => with_no_line(d.a, side),
     }
 }
 

@@ -21,38 +21,31 @@ same-length-3 c = search needs
 same-length-4 : tie.Need-same-length-4
 same-length-4 c = search needs
 
-same-length-5 : tie.Need-same-length-5
-same-length-5 c = search needs
-
-same-length-6 : tie.Need-same-length-6
-same-length-6 c = search needs
-
-same-length-7 : tie.Need-same-length-7
-same-length-7 c = search needs
-
 returns : tie.Need-returns
 returns c =
-    let a = c .before .before .before .before .before .before .before .before .before .before .before .before .before .before .before .before .before .before .before .before .before .before .before .before .before .before .before .before .before .before .args in
-    goes-as (byte-ends (state-in (a .d) (a .store-a .now) (a .hold-a .now) (a .store-b .now) (a .hold-b .now) (a .line .now)) (a .c) (c .before .before .before .before .before .before .before .before .before .before .before .before .before .before .before .before .before .before .before .before .before .before .if1 .taken)) (c .before .before .before .before .before .before .before .before .before .before .before .before .before .before .end-line .ensures)
+    let a = c .before .before .before .before .before .before .before .before .before .before .before .before .before .before .before .before .before .before .args in
+    goes-as (byte-ends (state-in (a .d) (a .stores .now) (a .holds .now) (a .line .now)) (a .c) (c .before .before .before .before .before .before .before .before .before .before .before .before .before .if1 .taken)) (c .before .before .before .before .before .before .before .before .end-line .ensures)
+
 
 remember-requires : tie.Need-remember-requires
 remember-requires c κs =
-    let p = c .before .before .before .before .before .before .before .before .before .pre in
+    let p = c .before .before .before .before .before .before .pre in
     (p .1 .line, p .1 .line-size, p .1 .line-clean)
+
 
 with-length-requires : tie.Need-with-length-requires
 with-length-requires c κs = search needs
 
-same-length-8 : tie.Need-same-length-8
-same-length-8 c = search needs
+same-length-5 : tie.Need-same-length-5
+same-length-5 c = search needs
 
 returns-2 : tie.Need-returns-2
 returns-2 c =
-    let a = c .before .before .before .before .before .before .before .before .before .before .before .before .before .args in
-    let p = c .before .before .before .before .before .before .before .before .before .before .before .before .before .pre in
+    let a = c .before .before .before .before .before .before .before .before .before .before .args in
+    let p = c .before .before .before .before .before .before .before .before .before .before .pre in
     let r = c .before .before .before .remember in
     goes-with (c .with-length .ensures)
-    (goes-byte (a .d) (a .store-a .now) (a .hold-a .now) (a .store-b .now) (a .hold-b .now) (a .line .now) (r .last .1 .0) (a .bytes .now) (a .out .now) (a .at) (a .c) (r .result) (c .before .before .before .before .before .if1 .left) (r .ensures .0) (r .ensures .1 .0) (r .ensures .1 .1) (r .kept .1 .0) (p .1) (omega (arith, p .2)))
+    (goes-byte (a .d) (a .stores .now) (a .holds .now) (a .line .now) (r .last .1 .0) (a .out .now) (a .at) (a .c) (r .result) (c .before .before .before .before .before .if1 .left) (r .ensures .0) (r .ensures .1 .0) (r .ensures .1 .1) (r .kept .1 .0) (p .1) (omega (arith, p .2)))
 
 pub step-spec : {M : Type 1} → statement M
 step-spec =
@@ -63,11 +56,8 @@ step-spec =
     same-length-2
     same-length-3
     same-length-4
-    same-length-5
-    same-length-6
-    same-length-7
     returns
     remember-requires
     with-length-requires
-    same-length-8
+    same-length-5
     returns-2)
