@@ -15,17 +15,14 @@ use Rattle.drive_pair.proofs.end_line.Tie as tie
 slice-aggregate-read-command : tie.Need-slice-aggregate-read-command
 slice-aggregate-read-command c = search needs
 
-
 read-command-requires : tie.Need-read-command-requires
 read-command-requires c κs = let p = c .before .before .before .before .before .before .pre in (p .1 .line, p .1 .line-size, sym (slice-aggregate-read-command c))
-
 
 clear-requires : tie.Need-clear-requires
 clear-requires c κs =
     let a = c .before .before .before .before .before .before .before .before .before .args in
     let p = c .before .before .before .before .before .before .before .before .before .pre in
     (omega arith, omega (arith, p .1 .line, p .1 .line-size), clean-at (a .line .now) (a .d .length) _ (omega arith) (p .1 .line-clean))
-
 
 side-of-requires : tie.Need-side-of-requires
 side-of-requires c κs = search needs
@@ -40,7 +37,6 @@ add-store-end c =
     let k : c .begins-at .result + 70000 < 2 ^ 64 = omega (arith, c .begins-at .ensures) in
     record { fits = k }
 
-
 begins-at-requires-2 : tie.Need-begins-at-requires-2
 begins-at-requires-2 c κs = search needs
 
@@ -50,7 +46,6 @@ add-hold-end c =
     let h = part-inside 2000 (c .before .before .before .before .before .before .before .before .before .before .before .before .before .before .before .args .holds .now) z (c .before .before .before .before .before .before .before .before .read-command .result .which) in
     let k : c .begins-at2 .result + 2000 < 2 ^ 64 = omega (arith, c .begins-at2 .ensures) in
     record { fits = k }
-
 
 sub-run : tie.Need-sub-run
 sub-run c = search needs
@@ -63,7 +58,6 @@ part-run-end c =
     let h = part-inside 70000 (c .before .before .before .before .before .before .before .before .before .before .before .before .before .before .before .args .stores .now) (stores-size (c .before .before .before .before .before .before .before .before .before .before .before .before .before .before .before .pre .1)) (c .before .before .before .before .before .before .before .before .read-command .result .which) in
     omega (arith, c .before .begins-at .ensures)
 
-
 sub-run-2 : tie.Need-sub-run-2
 sub-run-2 c = search needs
 
@@ -75,10 +69,8 @@ part-run-end-2 c =
     let h = part-inside 2000 (c .before .before .before .before .before .before .before .before .before .before .before .before .before .before .before .before .args .holds .now) (holds-size (c .before .before .before .before .before .before .before .before .before .before .before .before .before .before .before .before .pre .1)) (c .before .before .before .before .before .before .before .before .before .read-command .result .which) in
     omega (arith, c .before .begins-at2 .ensures)
 
-
 slice-aggregate-run : tie.Need-slice-aggregate-run
 slice-aggregate-run c = slice-aggregate-read-command (c .before .before .before .before .before .before .before .before .before .before .before .before) ∙ sym (c .before .before .before .before .before .before .before .before .before .before .before .read-command .kept .1 .1 .0)
-
 
 run-requires : tie.Need-run-requires
 run-requires c κs =
@@ -97,7 +89,6 @@ run-requires c κs =
       p .2,
     )
 
-
 with-side-requires : tie.Need-with-side-requires
 with-side-requires c κs = search needs
 
@@ -109,7 +100,6 @@ same-length-2 c = search needs
 
 same-length-3 : tie.Need-same-length-3
 same-length-3 c = c .before .before .before .before .before .before .before .before .before .before .before .before .before .before .before .before .before .before .clear .kept .0
-
 
 same-length-4 : tie.Need-same-length-4
 same-length-4 c = search needs

@@ -26,12 +26,10 @@ returns c =
     let a = c .before .before .before .before .before .before .before .before .before .before .before .before .before .before .before .before .before .before .args in
     goes-as (byte-ends (state-in (a .d) (a .stores .now) (a .holds .now) (a .line .now)) (a .c) (c .before .before .before .before .before .before .before .before .before .before .before .before .before .if1 .taken)) (c .before .before .before .before .before .before .before .before .end-line .ensures)
 
-
 remember-requires : tie.Need-remember-requires
 remember-requires c κs =
     let p = c .before .before .before .before .before .before .pre in
     (p .1 .line, p .1 .line-size, p .1 .line-clean)
-
 
 with-length-requires : tie.Need-with-length-requires
 with-length-requires c κs = search needs
