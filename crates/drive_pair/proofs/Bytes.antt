@@ -24,9 +24,9 @@ use Rattle.drive_token.proofs.Figures.{over-front}
 use Rattle.drive_side.specs.declared.Side.{Side}
 use Rattle.drive_call.specs.Sides.{Clean, repeated}
 use Rattle.drive_call.proofs.Lent.{clean-past, zeros-clean}
-use Rattle.drive_line.specs.Lines.{Kept, bad, commanded, kept-in, Buffered, Leaves}
+use Rattle.drive_line.specs.Lines.{Kept, bad, commanded, kept-in, Buffered}
 use Rattle.drive_line.proofs.Lengths.{did-short}
-use Rattle.drive_line.proofs.Leaving.{leaves-as}
+use Rattle.drive_line.proofs.Leaving.{Left, leaves-as}
 use Rattle.drive_pair.specs.declared.Pair.{Pair}
 use Rattle.drive_pair.specs.Pair.{State, PairStep, answered, ended, longer, byte, side-of, with-side, part-of, begins-at, state-in, Ready, Goes}
 use Rattle.drive_pair.proofs.Halves.{other, two-parts, part-lent, part-back}
@@ -118,7 +118,7 @@ module _ {d : Pair} {stores holds line : List ℕ} (z : Ready d stores holds lin
 -- its command is answered: what it left stands in its parts, and the other end's are as they were
 module _ {d : Pair} {stores holds line : List ℕ} (z : Ready d stores holds line) (c : Command) (unit : List ℕ) {r : Side} {store hold line' out : List ℕ} {at next : ℕ} {after : List ℕ} where
   goes-answered : (w : Which) {stores' holds' : List ℕ}
-      → Leaves (commanded (kept-in (side-of d w) (part-of w 70000 stores) (part-of w 2000 holds)) c unit) r store hold out at next after
+      → Left (commanded (kept-in (side-of d w) (part-of w 70000 stores) (part-of w 2000 holds)) c unit) r store hold out at next after
       → (part-of w 70000 stores' ≡ store) × (part-of (other w) 70000 stores' ≡ part-of (other w) 70000 stores)
       → (part-of w 2000 holds' ≡ hold) × (part-of (other w) 2000 holds' ≡ part-of (other w) 2000 holds)
       → line' ≡ repeated 4097 0 → at + 8192 ≤ length out
@@ -126,29 +126,29 @@ module _ {d : Pair} {stores holds line : List ℕ} (z : Ready d stores holds lin
   unfolding side-of with-side answered
   goes-answered which.A l s h e room =
       record {
-        state = ap₂ {C = State} (λ (x y : Kept). record { a = x; b = y; line = [] }) (ap₂ (kept-in r) (s .0) (h .0) ∙ l .kept) (ap₂ (kept-in (d .b)) (s .1) (h .1));
+        state = ap₂ {C = State} (λ (x y : Kept). record { a = x; b = y; line = [] }) (ap₂ (kept-in r) (s .0) (h .0) ∙ l .kept .kept) (ap₂ (kept-in (d .b)) (s .1) (h .1));
         lines = l .line;
-        ready = ready-next (buffered-as refl (s .0) (h .0) (l .buffers)) (buffered-as refl (s .1) (h .1) (z .b)) e;
+        ready = ready-next (buffered-as refl (s .0) (h .0) (l .kept .buffers)) (buffered-as refl (s .1) (h .1) (z .b)) e;
         inside = omega (arith, l .line .place, l .line .size, did-short (state-in d stores holds line .a) c unit);
       }
   goes-answered which.B l s h e room =
       record {
-        state = ap₂ {C = State} (λ (x y : Kept). record { a = x; b = y; line = [] }) (ap₂ (kept-in (d .a)) (s .1) (h .1)) (ap₂ (kept-in r) (s .0) (h .0) ∙ l .kept);
+        state = ap₂ {C = State} (λ (x y : Kept). record { a = x; b = y; line = [] }) (ap₂ (kept-in (d .a)) (s .1) (h .1)) (ap₂ (kept-in r) (s .0) (h .0) ∙ l .kept .kept);
         lines = l .line;
-        ready = ready-next (buffered-as refl (s .1) (h .1) (z .a)) (buffered-as refl (s .0) (h .0) (l .buffers)) e;
+        ready = ready-next (buffered-as refl (s .1) (h .1) (z .a)) (buffered-as refl (s .0) (h .0) (l .kept .buffers)) e;
         inside = omega (arith, l .line .place, l .line .size, did-short (state-in d stores holds line .b) c unit);
       }
 
   pub goes-command : (w : Which) (side : Side) (from first : ℕ) → side ≡ side-of d w → from ≡ begins-at w 70000 → first ≡ begins-at w 2000
-      → Leaves (commanded (kept-in side (midOf from (from + 70000 - from) stores) (midOf first (first + 2000 - first) holds)) c unit) r store hold out at next after
+      → Left (commanded (kept-in side (midOf from (from + 70000 - from) stores) (midOf first (first + 2000 - first) holds)) c unit) r store hold out at next after
       → line' ≡ repeated 4097 0 → at + 8192 ≤ length out
       → Goes (answered (state-in d stores holds line .a) (state-in d stores holds line .b) w c unit) (with-side d w r)
       (putMid from (from + 70000 - from) stores store) (putMid first (first + 2000 - first) holds hold) line' out at next after
   goes-command w side from first same s h l e room =
       goes-answered w
       (leaves-as (ap (λ (k : Kept). commanded k c unit) (keeps-as same (part-lent 70000 stores (stores-size z) w from s) (part-lent 2000 holds (holds-size z) w first h))) l)
-      (part-back 70000 stores (stores-size z) w from s store (l .buffers .store-size))
-      (part-back 2000 holds (holds-size z) w first h hold (l .buffers .hold-size))
+      (part-back 70000 stores (stores-size z) w from s store (l .kept .buffers .store-size))
+      (part-back 2000 holds (holds-size z) w first h hold (l .kept .buffers .hold-size))
       e room
 
 -- ---- a byte

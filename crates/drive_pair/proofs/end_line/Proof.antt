@@ -7,6 +7,7 @@ use Rattle.drive_script.specs.Script.{bytes-in}
 use Rattle.drive_call.proofs.Lent.{clean-at, cleared-all}
 use Rattle.drive_pair.specs.Pair.{state-in}
 use Rattle.drive_pair.proofs.Halves.{part-inside, part-lent}
+use Rattle.drive_line.proofs.Leaving.{joined}
 use Rattle.drive_pair.proofs.Bytes.{stores-size, holds-size, buffered-part, goes-as, goes-with, goes-command}
 use borrow.Author.Needs.{needs}
 use Rattle.drive_pair.proofs.end_line.Statement.{statement}
@@ -113,7 +114,7 @@ returns c =
     let s = state-in (a .d) (a .stores .now) (a .holds .now) (a .line .now) in
     goes-with (c .with-side .ensures)
     (goes-as (r .ensures .1 (s .a) (s .b))
-    (goes-command (p .1) (r .result .command) (take (bytes-in (r .result .command)) (r .last .1 .1 .0)) (r .result .which) (c .before .before .before .before .before .before .before .before .before .before .before .before .before .before .before .side-of .result) (c .before .before .before .before .before .before .before .before .before .before .before .before .before .before .begins-at .result) (c .before .before .before .before .before .before .before .before .before .before .before .before .before .begins-at2 .result) (c .before .before .before .before .before .before .before .before .before .before .before .before .before .before .before .side-of .ensures) (c .before .before .before .before .before .before .before .before .before .before .before .before .before .before .begins-at .ensures) (c .before .before .before .before .before .before .before .before .before .before .before .before .before .begins-at2 .ensures) (x .ensures .0) (cleared-all (c .before .before .before .before .before .before .before .before .before .before .before .before .before .before .before .before .before .before .clear .ensures) (p .1 .line-size)) (p .2)))
+    (goes-command (p .1) (r .result .command) (take (bytes-in (r .result .command)) (r .last .1 .1 .0)) (r .result .which) (c .before .before .before .before .before .before .before .before .before .before .before .before .before .before .before .side-of .result) (c .before .before .before .before .before .before .before .before .before .before .before .before .before .before .begins-at .result) (c .before .before .before .before .before .before .before .before .before .before .before .before .before .begins-at2 .result) (c .before .before .before .before .before .before .before .before .before .before .before .before .before .before .before .side-of .ensures) (c .before .before .before .before .before .before .before .before .before .before .before .before .before .before .begins-at .ensures) (c .before .before .before .before .before .before .before .before .before .before .before .before .before .begins-at2 .ensures) (joined (x .ensures .0, x .ensures .1 .0)) (cleared-all (c .before .before .before .before .before .before .before .before .before .before .before .before .before .before .before .before .before .before .clear .ensures) (p .1 .line-size)) (p .2)))
 
 pub end-line-spec : {M : Type 1} → statement M
 end-line-spec =

@@ -12,7 +12,6 @@ use Rattle.drive_pair.proofs.Bytes.{stores-size, holds-size}
 use Rattle.drive_session.specs.Drive.{session, taken}
 use Rattle.drive_session.proofs.Steps.{goes-none, goes-on}
 use Rattle.drive_session.proofs.Taken.{none-taken, taken-next, taken-end}
-use borrow.Author.Needs.{needs}
 use Rattle.drive_session.proofs.feed.Statement.{statement}
 use Rattle.drive_session.proofs.feed.Tie as tie
 
