@@ -36,46 +36,23 @@ fn main() {
 // Lays the check's table down, once, and the buffers.
 fn drive() {
     let t = crc::laid();
-    let mut store_a = [0u8; 70000];
-    let mut store_b = [0u8; 70000];
-    let mut hold_a = [0u8; 2000];
-    let mut hold_b = [0u8; 2000];
+    let mut stores = [0u8; 140000];
+    let mut holds = [0u8; 4000];
     let mut line = [0u8; 4097];
-    let mut bytes = [0u8; 2000];
     let mut input = io::large_buffer();
     let mut out = [0u8; 131072];
-    let begun = drive_session::begin(
-        &mut store_a,
-        &mut hold_a,
-        &mut store_b,
-        &mut hold_b,
-        &mut line,
-        &mut bytes,
-    );
+    let begun = drive_session::begin(&mut stores, &mut holds, &mut line);
     let driven = drive_all(
         &t,
         begun,
-        &mut store_a,
-        &mut hold_a,
-        &mut store_b,
-        &mut hold_b,
+        &mut stores,
+        &mut holds,
         &mut line,
-        &mut bytes,
         &mut input,
         &mut out,
     );
     let kept = driven.kept;
-    let last = drive_session::finish(
-        &t,
-        kept,
-        &mut store_a,
-        &mut hold_a,
-        &mut store_b,
-        &mut hold_b,
-        &mut line,
-        &mut bytes,
-        &mut out,
-    );
+    let last = drive_session::finish(&t, kept, &mut stores, &mut holds, &mut line, &mut out);
     write_last(&out, last.at, driven.failed);
 }
 
@@ -84,17 +61,14 @@ fn drive() {
 fn drive_all(
     t: &[u64; 256],
     d: Pair,
-    store_a: &mut [u8],
-    hold_a: &mut [u8],
-    store_b: &mut [u8],
-    hold_b: &mut [u8],
+    stores: &mut [u8],
+    holds: &mut [u8],
     line: &mut [u8],
-    bytes: &mut [u8],
     input: &mut [u8],
     out: &mut [u8],
 ) -> Driven
-    requires { ⌜ (now t ≡ table) × Ready d (now «store_a») (now «hold_a») (now «store_b») (now «hold_b») (now line) (now bytes) × (8192 ≤ length (now out)) ⌝ }
-    ensures { λ r. ⌜ Ready (r .kept) (now («store_a» .exit)) (now («hold_a» .exit)) (now («store_b» .exit)) (now («hold_b» .exit)) (now (line .exit)) (now (bytes .exit)) ⌝ }
+    requires { ⌜ (now t ≡ table) × Ready d (now stores) (now holds) (now line) × (8192 ≤ length (now out)) ⌝ }
+    ensures { λ r. ⌜ Ready (r .kept) (now (stores .exit)) (now (holds .exit)) (now (line .exit)) ⌝ }
 {
     let mut kept = d;
     let mut turn = first_turn();
@@ -102,18 +76,7 @@ fn drive_all(
         let now = read_more(turn, input);
         let from = now.from;
         let to = now.to;
-        let fed = drive_session::feed(
-            t,
-            kept,
-            store_a,
-            hold_a,
-            store_b,
-            hold_b,
-            line,
-            bytes,
-            &input[from..to],
-            out,
-        );
+        let fed = drive_session::feed(t, kept, stores, holds, line, &input[from..to], out);
         let written = text_out::write(out, fed.bytes);
         kept = fed.pair;
         turn = next_turn(now, fed.used, written);
