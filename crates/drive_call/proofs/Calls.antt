@@ -1,4 +1,4 @@
--- A call of an operation with the lent buffers, put together from what the operation and the ticket say. Assumes nothing.
+-- A call of an operation with the lent buffers, put together from what the operation and the ticket say.
 use mathlib.Core.List.{List}
 use mathlib.Core.Path.{_≡_, refl}
 use Prim.Native.Nat.{ℕ}
@@ -13,7 +13,7 @@ use Rattle.receive.specs.Receive.{receive, receive-hold}
 use Rattle.receive.specs.declared.Received.{Received as ReceivedBy}
 use Rattle.ticket.specs.Ticket.{TicketCall, nothing, ticket-after}
 use Rattle.ticket.specs.declared.Ticket.{Ticket}
-use Rattle.drive_side.specs.Settings.{after-call}
+use Rattle.drive_side.specs.Side.{after-call}
 use Rattle.drive_side.specs.declared.Side.{Side}
 use Rattle.drive_call.specs.Sides.{repeated, lent-bytes, side-started, accepts, sends, sends-output, receives}
 

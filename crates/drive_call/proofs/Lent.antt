@@ -1,4 +1,4 @@
--- Laws of the buffers: zeros after the kept bytes make what is lent, and what a call leaves is the kept bytes again. Assumes nothing.
+-- Laws of the buffers: zeros after the kept bytes make what is lent, and what a call leaves is the kept bytes again.
 use mathlib.Core.Bool.{Bool, true, false, cond}
 use mathlib.Core.List.{List, [], _∷_, _++_, append-nil}
 use mathlib.Core.Path.{_≡_, refl, sym, ap, ap₂, subst, _∙_}

@@ -1,17 +1,18 @@
--- What the commands start, accept, send, receive and fill do to an end, by what the operations are said to do. Assumes nothing.
-use mathlib.Core.Bool.{Bool, _||_}
+-- What the commands start, accept, send, receive and fill do to an end, by what the operations are said to do.
+use mathlib.Core.Bool.{Bool, _||_, cond}
 use mathlib.Core.List.{List, _++_}
 use mathlib.Core.Path.{_≡_}
 use Prim.Native.Nat.{ℕ, _+_, _-_}
 use lib.Dec.{leb, eqb}
 use lib.ListN.{length, take, drop, replicate}
+use Rattle.text.specs.Text.{written}
 use Rattle.end_state.specs.State.{start}
 use Rattle.accept_verdict.specs.Admission.{flits-of}
 use Rattle.accept.specs.Accept.{accept, accept-store}
 use Rattle.send.specs.Send.{send, send-output}
 use Rattle.receive.specs.Receive.{receive, receive-hold}
 use Rattle.ticket.specs.Ticket.{TicketCall, nothing, ticket-after}
-use Rattle.drive_side.specs.Settings.{after-call}
+use Rattle.drive_side.specs.Side.{after-call}
 use Rattle.drive_side.specs.declared.Side.{Side}
 use Rattle.drive_call.specs.declared.SideTook.{SideTook}
 use Rattle.drive_call.specs.declared.SideSent.{SideSent}
@@ -86,3 +87,7 @@ receives-hold s store hold flit = kept-after (receive-hold (s .end) (lent-bytes 
 -- bytes all inside a store of so many
 unfoldable pub fill-fits : ℕ → ℕ → ℕ → Bool
 fill-fits kept offset bytes = eqb bytes 0 || leb (offset + bytes) kept
+
+-- the store after it: the bytes in their place, or as it was
+abbrev pub fills-store : ℕ → List ℕ → ℕ → List ℕ → List ℕ
+fills-store kept store offset bytes = cond (fill-fits kept offset (length bytes)) (written store offset bytes) store

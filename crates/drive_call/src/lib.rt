@@ -6,13 +6,11 @@ use end_state::End;
 use end_state::Verdict;
 use flit_number::FlitCount;
 use receive_answer::Answer;
-ghost use mathlib.Core.Bool.{cond};
 ghost use mathlib.Core.Path.{_≡_};
 ghost use Prim.Native.Nat.{_+_, _-_, _≤_};
 ghost use lib.ListN.{length, take};
 ghost use Rattle.crc.specs.Register.{table};
-ghost use Rattle.text.specs.Text.{written};
-ghost use Rattle.drive_call.specs.Sides.{Clean, repeated, lent-bytes, side-started, accepts, accepts-store, sends, sends-output, receives, receives-hold, fill-fits};
+ghost use Rattle.drive_call.specs.Sides.{Clean, repeated, lent-bytes, side-started, accepts, accepts-store, sends, sends-output, receives, receives-hold, fill-fits, fills-store};
 
 // The side after start or accept, and what it answered.
 pub struct SideTook {
@@ -129,7 +127,7 @@ pub fn receive(
 pub fn fill(kept: usize, store: &mut [u8], offset: u64, bytes: &[u8]) -> bool
     requires { ⌜ (kept ≤ length (now store)) × Clean kept (now store) ⌝ }
     ensures { λ r. ⌜ r ≡ fill-fits kept offset (length (now (bytes .entry))) ⌝ }
-    ensures { λ _. ⌜ now (store .exit) ≡ lent-bytes (length (now (store .entry))) (cond (fill-fits kept offset (length (now (bytes .entry)))) (written (take kept (now (store .entry))) offset (now (bytes .entry))) (take kept (now (store .entry)))) ⌝ }
+    ensures { λ _. ⌜ now (store .exit) ≡ lent-bytes (length (now (store .entry))) (fills-store kept (take kept (now (store .entry))) offset (now (bytes .entry))) ⌝ }
 {
     let n = bytes.len();
     if n == 0 {

@@ -1,5 +1,5 @@
 -- What a command leaves, from what its functions say: the side in its buffers, and the text before STATE.
-use mathlib.Core.Bool.{true, false, cond}
+use mathlib.Core.Bool.{true, false}
 use mathlib.Core.List.{List}
 use mathlib.Core.Path.{_≡_, refl, ap, ap₂, sym, subst, _∙_}
 use Prim.Native.Nat.{ℕ, _≤_}
@@ -13,9 +13,10 @@ use Rattle.end_state.specs.declared.End.{End}
 use Rattle.ticket.specs.declared.Ticket.{Ticket}
 use Rattle.drive_script.specs.Script.{bytes-in}
 use Rattle.drive_script.specs.declared.Command.{Command}
-use Rattle.drive_side.specs.Settings.{after-call, side-lent}
+use Rattle.drive_side.specs.Side.{after-call}
+use Rattle.drive_set.specs.Settings.{side-lent}
 use Rattle.drive_side.specs.declared.Side.{Side}
-use Rattle.drive_call.specs.Sides.{repeated, lent-bytes, side-started, fill-fits}
+use Rattle.drive_call.specs.Sides.{repeated, lent-bytes, side-started, fill-fits, fills-store}
 use Rattle.drive_call.proofs.Lent.{lent-clean, zeros-clean}
 use Rattle.drive_line.specs.Lines.{Kept, Did, state-of, stated, bad, bad-line, fill-line, commanded, kept-in, Buffered, Leaves}
 
@@ -169,7 +170,7 @@ leaves-bad b p = leaves-alone b p
 module _ (k : Kept) (offset : ℕ) (bytes : List ℕ) where
   -- what the store is after it
   abbrev pub filled : List ℕ
-  filled = cond (fill-fits (k .side .kept) offset (length bytes)) (written (k .store) offset bytes) (k .store)
+  filled = fills-store (k .side .kept) (k .store) offset bytes
 
   pub length-filled : length filled ≡ length (k .store)
   length-filled =

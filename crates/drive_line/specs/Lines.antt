@@ -13,7 +13,7 @@ use Rattle.drive_name.specs.declared.Key.{Key}
 use Rattle.drive_script.specs.Script.{bytes-in}
 use Rattle.drive_script.specs.declared.Command.{Command}
 use Rattle.drive_script.specs.declared.Command.the-variants as command
-use Rattle.drive_side.specs.Settings.{side-poked, side-lent, side-counted}
+use Rattle.drive_set.specs.Settings.{side-poked, side-lent, side-counted}
 use Rattle.drive_side.specs.declared.Side.{Side}
 use Rattle.drive_call.specs.Sides.{Clean, repeated, side-started, accepts, accepts-store, sends, sends-output, receives, receives-hold, fill-fits}
 

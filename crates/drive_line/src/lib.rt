@@ -189,7 +189,7 @@ fn poke(
     ensures { λ r. ⌜ Leaves (poke-line (kept-in side (now (store .entry)) (now (hold .entry))) field value .kept) (r .side) (now (store .entry)) (now (hold .entry)) ⌝ }
     ensures { λ r. ⌜ Puts (now (out .entry)) at (poke-line (kept-in side (now (store .entry)) (now (hold .entry))) field value .line) (r .at) (now (out .exit)) ⌝ }
 {
-    let after = drive_side::poke(side, field, value);
+    let after = drive_set::poke(side, field, value);
     put_plain(out, at, b"poke refuse=", 0, after, store, hold)
 }
 
@@ -226,7 +226,7 @@ fn lend(
     ensures { λ r. ⌜ Leaves (lend-line (kept-in side (now (store .entry)) (now (hold .entry))) lent held .kept) (r .side) (now (store .entry)) (now (hold .entry)) ⌝ }
     ensures { λ r. ⌜ Puts (now (out .entry)) at (lend-line (kept-in side (now (store .entry)) (now (hold .entry))) lent held .line) (r .at) (now (out .exit)) ⌝ }
 {
-    let after = drive_side::lend(side, lent, held);
+    let after = drive_set::lend(side, lent, held);
     put_plain(out, at, b"lend refuse=", 0, after, store, hold)
 }
 
@@ -235,7 +235,7 @@ fn count(side: Side, store: &[u8], hold: &[u8], key: Key, n: u32, out: &mut [u8]
     ensures { λ r. ⌜ Leaves (count-line (kept-in side (now (store .entry)) (now (hold .entry))) key n .kept) (r .side) (now (store .entry)) (now (hold .entry)) ⌝ }
     ensures { λ r. ⌜ Puts (now (out .entry)) at (count-line (kept-in side (now (store .entry)) (now (hold .entry))) key n .line) (r .at) (now (out .exit)) ⌝ }
 {
-    let after = drive_side::count(side, key, n);
+    let after = drive_set::count(side, key, n);
     put_plain(out, at, b"count refuse=", 0, after, store, hold)
 }
 

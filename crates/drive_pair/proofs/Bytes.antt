@@ -1,4 +1,4 @@
--- What a byte does: one that is remembered, a line that is read, and its command for one of the two ends. Assumes nothing.
+-- What a byte does: one that is remembered, a line that is read, and its command for one of the two ends.
 use mathlib.Core.List.{List, [], _∷_, _++_}
 use mathlib.Core.Path.{_≡_, refl, ap, ap₂, sym, subst, _∙_}
 use Prim.Native.Nat.{ℕ, _+_, _-_, _≤_, _<_}

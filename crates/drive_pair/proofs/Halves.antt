@@ -1,5 +1,5 @@
 -- A buffer of two parts of the same length, of which one is lent and comes back: that part is what was left in it, and the other one is as it
--- was. Assumes nothing.
+-- was.
 use mathlib.Core.List.{List, _++_, append-nil}
 use mathlib.Core.Path.{_≡_, refl, ap, ap₂, _∙_}
 use Prim.Native.Nat.{ℕ, _+_, _-_, _≤_}

@@ -1,4 +1,4 @@
--- Two ends and the line so far: what one byte of the input does. Assumes nothing.
+-- Two ends and the line so far: what one byte of the input does.
 use mathlib.Core.Bool.{cond}
 use mathlib.Core.List.{List, [], _∷_, _++_}
 use mathlib.Core.Path.{_≡_}

@@ -1,5 +1,5 @@
 -- How the input is cut does not matter: the state and the lines after some parts of an input, one after the other, are those after the whole
--- input. So the program may read as it likes and take as much at a time as has room. Assumes nothing.
+-- input. So the program may read as it likes and take as much at a time as has room.
 use mathlib.Core.List.{List, [], _∷_, _++_, append-assoc, append-nil}
 use mathlib.Core.Path.{_≡_, refl, ap, ap₂, sym, _∙_}
 use Prim.Native.Nat.{ℕ, zero, suc, _+_, _≤_}

@@ -1,4 +1,4 @@
--- How a session begins, goes on and ends. Assumes nothing.
+-- How a session begins, goes on and ends.
 use mathlib.Core.List.{List, [], _++_}
 use mathlib.Core.Path.{_≡_, refl, ap, ap₂, sym, subst, _∙_}
 use Prim.Native.Nat.{ℕ, _+_, _-_}

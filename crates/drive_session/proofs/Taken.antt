@@ -1,5 +1,4 @@
 -- How much of an input is taken: at most all of it, at least a byte, and as much as a loop takes that goes on while a line has room.
--- Assumes nothing.
 use mathlib.Core.Bool.{Bool, true, false, _&&_}
 use mathlib.Core.List.{List}
 use mathlib.Core.Path.{_≡_, refl, ap, sym, subst, _∙_}

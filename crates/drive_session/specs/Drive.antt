@@ -1,4 +1,4 @@
--- Driving two ends from text: what the bytes of an input do, one after the other. Assumes nothing.
+-- Driving two ends from text: what the bytes of an input do, one after the other.
 use mathlib.Core.Bool.{cond}
 use mathlib.Core.List.{List, [], _++_}
 use Prim.Native.Nat.{ℕ, zero, suc, _+_}

@@ -1,4 +1,4 @@
--- `drive::drive` is safe: the buffers are as long as they must be. Assumes nothing.
+-- `drive::drive` is safe: the buffers are as long as they must be.
 use mathlib.Core.Path.{sym, _∙_}
 use native.Mathlib.Omega.{arith}
 use borrow.Author.Needs.{needs}

@@ -1,4 +1,4 @@
--- `drive::drive_all` is safe and ends: the measure is the turns left. Assumes nothing.
+-- `drive::drive_all` is safe and ends: the measure is the turns left.
 use mathlib.Core.List.{List}
 use mathlib.Core.Path.{_≡_, refl, sym, _∙_}
 use Prim.Native.Nat.{ℕ, _+_, _-_, _≤_}

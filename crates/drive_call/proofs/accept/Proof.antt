@@ -1,5 +1,4 @@
--- `drive_call::accept` meets its contract: accept with what is lent of the store, the ticket after it, and the buffer clean again. Assumes
--- nothing.
+-- `drive_call::accept` meets its contract: accept with what is lent of the store, the ticket after it, and the buffer clean again.
 use Prim.Native.Nat.{_-_}
 use lib.ListN.{take}
 use lib.Seq.{length-front}

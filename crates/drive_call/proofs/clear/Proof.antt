@@ -1,4 +1,4 @@
--- `drive_call::clear` meets its contract. Assumes nothing.
+-- `drive_call::clear` meets its contract.
 use native.Mathlib.Omega.{arith}
 use Rattle.drive_call.proofs.Lent.{cleared-some, cleared-none}
 use borrow.Author.Needs.{needs}

@@ -1,4 +1,4 @@
--- `drive_call::fill` meets its contract. Assumes nothing.
+-- `drive_call::fill` meets its contract.
 use native.Mathlib.Omega.{arith}
 use Rattle.drive_call.proofs.Lent.{fill-none, fill-not, fill-does}
 use borrow.Author.Needs.{needs}

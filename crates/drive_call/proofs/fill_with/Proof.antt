@@ -1,4 +1,4 @@
--- `drive_call::fill_with` meets its contract: the first i bytes are made the same, and those after them are as they were. Assumes nothing.
+-- `drive_call::fill_with` meets its contract: the first i bytes are made the same, and those after them are as they were.
 use mathlib.Core.List.{List, _++_}
 use mathlib.Core.Path.{_≡_, refl, ap, _∙_}
 use Prim.Native.Nat.{ℕ, _-_, _≤_}

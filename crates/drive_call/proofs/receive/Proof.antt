@@ -1,5 +1,5 @@
 -- `drive_call::receive` meets its contract: receive with what is lent of the store and of the hold, the ticket after it, and the hold's buffer
--- clean again. Assumes nothing.
+-- clean again.
 use Prim.Native.Nat.{_-_}
 use lib.ListN.{take}
 use lib.Seq.{length-front}

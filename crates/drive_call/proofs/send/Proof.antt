@@ -1,4 +1,4 @@
--- `drive_call::send` meets its contract: send with what is lent of the store, and an output of bytes 165. Assumes nothing.
+-- `drive_call::send` meets its contract: send with what is lent of the store, and an output of bytes 165.
 use Prim.Native.Nat.{_-_}
 use lib.ListN.{length, take}
 use Rattle.drive_call.proofs.Lent.{lent-part}

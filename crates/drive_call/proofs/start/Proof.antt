@@ -1,4 +1,4 @@
--- `drive_call::start` meets its contract: zeros, and start with the store. Assumes nothing.
+-- `drive_call::start` meets its contract: zeros, and start with the store.
 use mathlib.Core.Path.{refl, _∙_}
 use Prim.Native.Nat.{_-_}
 use native.Mathlib.Nat.{sub-zero}

@@ -2,7 +2,7 @@
 use mathlib.Core.Path.{refl}
 use native.Mathlib.Omega.{arith}
 use lib.ListN.{take}
-use Rattle.drive_side.specs.Settings.{side-lent}
+use Rattle.drive_set.specs.Settings.{side-lent}
 use Rattle.drive_line.specs.Lines.{lend-line}
 use Rattle.drive_line.proofs.Leaving.{apart, joined, buffered-lent, keeps, leaves-stated}
 use borrow.Author.Needs.{needs}

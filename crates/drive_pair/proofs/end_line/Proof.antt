@@ -1,4 +1,4 @@
--- `drive_pair::end_line` meets its contract: the line is read, and its command answered by the end that it is for. Assumes nothing.
+-- `drive_pair::end_line` meets its contract: the line is read, and its command answered by the end that it is for.
 use mathlib.Core.Path.{sym, _∙_}
 use Prim.Native.Nat.{_+_, _^_, _<_}
 use native.Mathlib.Omega.{arith}

@@ -1,4 +1,4 @@
--- `drive_pair::read_command` meets its contract: its command, answered, is what the end of the line does. Assumes nothing.
+-- `drive_pair::read_command` meets its contract: its command, answered, is what the end of the line does.
 use Prim.Native.Nat.{_-_}
 use native.Mathlib.Omega.{arith}
 use lib.ListN.{take}

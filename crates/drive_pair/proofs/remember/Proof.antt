@@ -1,4 +1,4 @@
--- `drive_pair::remember` meets its contract. Assumes nothing.
+-- `drive_pair::remember` meets its contract.
 use native.Mathlib.Omega.{arith}
 use Rattle.drive_pair.proofs.Bytes.{remembered, remembered-clean, forgotten}
 use borrow.Author.Needs.{needs}

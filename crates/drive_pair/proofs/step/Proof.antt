@@ -1,4 +1,4 @@
--- `drive_pair::step` meets its contract: a line feed ends the line, and any other byte is remembered. Assumes nothing.
+-- `drive_pair::step` meets its contract: a line feed ends the line, and any other byte is remembered.
 use native.Mathlib.Omega.{arith}
 use Rattle.drive_pair.specs.Pair.{state-in}
 use Rattle.drive_pair.proofs.Bytes.{goes-as, goes-with, byte-ends, goes-byte}

@@ -1,4 +1,4 @@
--- `drive_pair::with_side` meets its contract. Assumes nothing.
+-- `drive_pair::with_side` meets its contract.
 use mathlib.Core.Path.{ap, sym, _∙_}
 use Rattle.drive_name.specs.declared.Which.{Which}
 use Rattle.drive_pair.specs.Pair.{with-side}

@@ -1,4 +1,4 @@
--- `drive_session::begin` meets its contract: all buffers are zeros, and both ends are as after a start of no bytes. Assumes nothing.
+-- `drive_session::begin` meets its contract: all buffers are zeros, and both ends are as after a start of no bytes.
 use mathlib.Core.Path.{ap, _∙_}
 use Prim.Native.Nat.{ℕ}
 use native.Mathlib.Omega.{arith}

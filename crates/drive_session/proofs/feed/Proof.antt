@@ -1,4 +1,4 @@
--- `drive_session::feed` meets its contract: after some turns, what is kept and the output are as after so many bytes. Assumes nothing.
+-- `drive_session::feed` meets its contract: after some turns, what is kept and the output are as after so many bytes.
 use mathlib.Core.Path.{_≡_, refl, sym, _∙_}
 use Prim.Native.Nat.{_+_, _-_, _^_, _≤_, _<_}
 use native.Mathlib.Nat.{zero-add}

@@ -1,4 +1,4 @@
--- `drive_session::finish` meets its contract. Assumes nothing.
+-- `drive_session::finish` meets its contract.
 use Rattle.drive_pair.proofs.Bytes.{goes-as}
 use Rattle.drive_session.proofs.Steps.{goes-finished, finished-some}
 use borrow.Author.Needs.{needs}

@@ -1,10 +1,11 @@
--- `drive_side::count` meets its contract.
+-- `drive_set::count` meets its contract.
 use mathlib.Core.Path.{ap, _∙_}
 use Rattle.ticket.specs.declared.Ticket.{Ticket}
-use Rattle.drive_side.specs.Settings.{after-call, side-counted}
+use Rattle.drive_side.specs.Side.{after-call}
+use Rattle.drive_set.specs.Settings.{side-counted}
 use borrow.Author.Needs.{needs}
-use Rattle.drive_side.proofs.count.Statement.{statement}
-use Rattle.drive_side.proofs.count.Tie as tie
+use Rattle.drive_set.proofs.count.Statement.{statement}
+use Rattle.drive_set.proofs.count.Tie as tie
 
 with-count-requires : tie.Need-with-count-requires
 with-count-requires c κs = search needs

@@ -1,10 +1,11 @@
--- `drive_side::poke` meets its contract.
+-- `drive_set::poke` meets its contract.
 use mathlib.Core.Path.{ap, _∙_}
 use Rattle.end_state.specs.declared.End.{End}
-use Rattle.drive_side.specs.Settings.{after-call, side-poked}
+use Rattle.drive_side.specs.Side.{after-call}
+use Rattle.drive_set.specs.Settings.{side-poked}
 use borrow.Author.Needs.{needs}
-use Rattle.drive_side.proofs.poke.Statement.{statement}
-use Rattle.drive_side.proofs.poke.Tie as tie
+use Rattle.drive_set.proofs.poke.Statement.{statement}
+use Rattle.drive_set.proofs.poke.Tie as tie
 
 poked-requires : tie.Need-poked-requires
 poked-requires c κs = search needs
