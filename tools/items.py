@@ -113,7 +113,7 @@ def extent(said, at):
         if said[at] == '{':
             after = closed(said, at)
             return (at, after) if function else (after, after)
-        contract = said[at] in ('requires', 'ensures')
+        contract = said[at] in ('ghost', 'requires', 'ensures')
         at = closed(said, at + contract) if contract or said[at] in ('(', '[') else at + 1
     return at, at + 1
 
