@@ -7,7 +7,7 @@ use end_state::{End, Verdict, ring};
 use flit_number::FlitCount;
 
 // What accept answers, and the end after it.
-#[derive(Drop)]
+#[derive(Clone, Copy)]
 pub struct Accepted {
     pub verdict: Verdict,
     pub end: End,

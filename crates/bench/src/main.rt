@@ -7,7 +7,7 @@ use bench_capture::Bench;
 use libc::{STDERR_FILENO, STDIN_FILENO};
 
 // What is kept after a read: the bytes of an unfinished flit are at the start of the input.
-#[derive(Drop)]
+#[derive(Clone, Copy)]
 struct Turn {
     kept: Bench,
     rest: usize,

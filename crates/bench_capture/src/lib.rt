@@ -9,7 +9,7 @@ use end_state::End;
 use ticket::Ticket;
 
 // What is kept while flits arrive: how many came, the receiver, the ticket.
-#[derive(Drop)]
+#[derive(Clone, Copy)]
 pub struct Bench {
     pub end: End,
     pub flits: u64,
@@ -17,7 +17,7 @@ pub struct Bench {
 }
 
 // What is kept after some flits, and the bytes of their lines.
-#[derive(Drop)]
+#[derive(Clone, Copy)]
 pub struct Printed {
     pub kept: Bench,
     pub bytes: usize,

@@ -2,6 +2,9 @@
 // through a table of 256 remainders, and keeps a 36-bit remainder in a u64, the coefficient of x^35 in bit 0. A constant array is laid down
 // by stores in each function that names it, so one function names the table, and the others are handed it: who checks many units lays it
 // down once and calls the functions that end in `_with`.
+
+#![tactic(auto)]
+
 ghost use Rattle.std.specs.Prelude.{◌≡◌, true, ◌++◌, ◌≤◌, length};
 ghost use Rattle.crc.specs.Poly.{remainder as remainder_of};
 ghost use Rattle.crc.specs.Unit.{bits, polynomial, IsRight, right as right_of, flit_right as flit_right_of};

@@ -9,7 +9,7 @@ use libc::{STDERR_FILENO, STDIN_FILENO};
 
 // How far the input is used: what stands in its buffer from one place up to another is not. The turns left, and whether one more is to
 // come.
-#[derive(Drop)]
+#[derive(Clone, Copy)]
 struct Turn {
     from: usize,
     to: usize,
@@ -19,7 +19,7 @@ struct Turn {
 }
 
 // What is kept after the input, and whether a read or a write failed.
-#[derive(Drop)]
+#[derive(Clone, Copy)]
 struct Driven {
     kept: Pair,
     failed: bool,

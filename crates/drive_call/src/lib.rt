@@ -11,21 +11,21 @@ use flit_number::FlitCount;
 use receive_answer::Answer;
 
 // The side after start or accept, and what it answered.
-#[derive(Drop)]
+#[derive(Clone, Copy)]
 pub struct SideTook {
     pub side: Side,
     pub verdict: Verdict,
 }
 
 // The side after send, and what it answered.
-#[derive(Drop)]
+#[derive(Clone, Copy)]
 pub struct SideSent {
     pub side: Side,
     pub answer: send::Answer,
 }
 
 // The side after receive, and what it answered.
-#[derive(Drop)]
+#[derive(Clone, Copy)]
 pub struct SideReceived {
     pub side: Side,
     pub answer: Answer,

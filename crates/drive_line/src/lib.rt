@@ -13,7 +13,7 @@ use drive_side::Side;
 use end_state::End;
 
 // The side after a command, and the place after its line.
-#[derive(Drop)]
+#[derive(Clone, Copy)]
 pub struct Done {
     pub side: Side,
     pub at: usize,

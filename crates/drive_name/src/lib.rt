@@ -4,14 +4,14 @@ ghost use Rattle.drive_token.specs.Tokens.{tokens as tokens_of};
 ghost use Rattle.drive_name.specs.Names.{word_place, end_of, field_of, most as most_of, key_of};
 
 // The end that a command is for.
-#[derive(Drop)]
+#[derive(Clone, Copy)]
 pub enum Which {
     A,
     B,
 }
 
 // The fields of the state that poke sets, by the names of the output line.
-#[derive(Drop)]
+#[derive(Clone, Copy)]
 pub enum EndField {
     Capacity,
     First,
@@ -35,7 +35,7 @@ pub enum EndField {
 }
 
 // The counts of the ticket that count sets.
-#[derive(Drop)]
+#[derive(Clone, Copy)]
 pub enum Key {
     Accepted,
     Delivered,
@@ -45,19 +45,19 @@ pub enum Key {
 }
 
 // The end, the field or the count that a token names, if any.
-#[derive(Drop)]
+#[derive(Clone, Copy)]
 pub enum EndNamed {
     Known(Which),
     Unknown,
 }
 
-#[derive(Drop)]
+#[derive(Clone, Copy)]
 pub enum FieldNamed {
     Known(EndField),
     Unknown,
 }
 
-#[derive(Drop)]
+#[derive(Clone, Copy)]
 pub enum KeyNamed {
     Known(Key),
     Unknown,

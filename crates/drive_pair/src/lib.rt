@@ -11,7 +11,7 @@ use drive_script::{Command, Line};
 use drive_side::Side;
 
 // What is kept beside the buffers: the two ends, and the bytes of the line so far.
-#[derive(Drop)]
+#[derive(Clone, Copy)]
 pub struct Pair {
     pub a: Side,
     pub b: Side,
@@ -19,7 +19,7 @@ pub struct Pair {
 }
 
 // What is kept, and the place after what was printed.
-#[derive(Drop)]
+#[derive(Clone, Copy)]
 pub struct Stepped {
     pub pair: Pair,
     pub at: usize,

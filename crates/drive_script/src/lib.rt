@@ -9,7 +9,7 @@ ghost use Rattle.drive_script.specs.Script.{for_end, line_from, line_of, hex_car
 use drive_name::{EndField, EndNamed, Key, Which};
 
 // Accept, Receive and Fill hold the number of bytes of their HEX, which stand in the buffer lent for them.
-#[derive(Drop)]
+#[derive(Clone, Copy)]
 pub enum Command {
     Bad,
     Start(usize),
@@ -23,7 +23,7 @@ pub enum Command {
     Count(Key, u32),
 }
 
-#[derive(Drop)]
+#[derive(Clone, Copy)]
 pub struct Line {
     pub which: Which,
     pub command: Command,

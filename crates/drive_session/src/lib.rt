@@ -8,7 +8,7 @@ ghost use Rattle.drive_session.specs.Drive.{drive_begun, session, taken, finishe
 use drive_pair::{Pair, Stepped};
 
 // What is kept after some bytes of the input, and the bytes of their lines.
-#[derive(Drop)]
+#[derive(Clone, Copy)]
 pub struct Fed {
     pub pair: Pair,
     pub used: usize,

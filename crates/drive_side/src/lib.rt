@@ -7,7 +7,7 @@ use end_state::End;
 use ticket::Ticket;
 
 // An end with its ticket, the bytes of its store, and how many bytes of store and hold are lent.
-#[derive(Drop)]
+#[derive(Clone, Copy)]
 pub struct Side {
     pub end: End,
     pub kept: usize,

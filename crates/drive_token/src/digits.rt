@@ -3,7 +3,7 @@ ghost use Rattle.std.specs.Prelude.{true, ◌&&◌, cond, [], ◌≡◌, ◌+◌
 ghost use Rattle.drive_token.specs.Tokens.{is_digit, value, all_below, is_decimal, is_number, offset_value, nibble as nibble_of, all_hex, digit_pairs, is_bytes, pairs, over};
 
 // A number that a token says, or 0 where it says none.
-#[derive(Drop)]
+#[derive(Clone, Copy)]
 pub struct Parsed {
     pub value: u64,
     pub ok: bool,
@@ -94,7 +94,7 @@ pub fn offset(token: &[u8]) -> Parsed
 }
 
 // How many bytes a token says in hexadecimal, or 0 where it says none.
-#[derive(Drop)]
+#[derive(Clone, Copy)]
 pub struct HexRead {
     pub count: usize,
     pub ok: bool,

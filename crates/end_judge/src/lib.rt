@@ -1,4 +1,7 @@
 // What every operation but start refuses first: STORE and STATE.
+
+#![tactic(auto)]
+
 ghost use Rattle.std.specs.Prelude.{◌≡◌, true, cond, ltb, length};
 ghost use Rattle.end_state.specs.Refusals.{store_is, counts_sound as counts_sound_of, numbers_sound as numbers_sound_of, sound as sound_of, previous_run, last_run};
 
@@ -50,7 +53,7 @@ fn inside_oldest(e: End) -> usize
 
 // Whether a state is sound with its store, and if so the run lengths of the control flit before the cursor and of the last one
 // accepted.
-#[derive(Drop)]
+#[derive(Clone, Copy)]
 pub struct Judged {
     pub previous: FlitCount,
     pub last: FlitCount,

@@ -1,5 +1,8 @@
 // One end of a link: its state, the fresh end and start, what is refused by which number, and below it the ring of places and the walk
 // over it (01, "What an end keeps"; "Refusals by number").
+
+#![tactic(auto)]
+
 pub mod ring;
 pub mod walk;
 
@@ -10,7 +13,7 @@ ghost use Rattle.end_state.specs.Refusals.{is_down as is_down_of};
 use flit_number::{FlitCount, NextWanted, SequenceNumber};
 
 // Run: flits are taken in order. Wait: a replay flit is waited for. Down: every call but start is refused.
-#[derive(Drop)]
+#[derive(Clone, Copy)]
 pub enum Mode {
     Run,
     Wait,
@@ -18,7 +21,7 @@ pub enum Mode {
 }
 
 // What is refused. specs/State.antt gives the number of each.
-#[derive(Drop)]
+#[derive(Clone, Copy)]
 pub enum Refusal {
     Store,
     State,
@@ -31,14 +34,14 @@ pub enum Refusal {
 }
 
 // What is found before a call does anything.
-#[derive(Drop)]
+#[derive(Clone, Copy)]
 pub enum Verdict {
     Refused(Refusal),
     Admitted,
 }
 
 // Fields of one size stand together: a copy then has no gaps.
-#[derive(Drop)]
+#[derive(Clone, Copy)]
 pub struct End {
     // the newest first
     pub information: [u64; 8],
@@ -68,7 +71,7 @@ pub struct End {
 }
 
 // What start answers, and the end made.
-#[derive(Drop)]
+#[derive(Clone, Copy)]
 pub struct Started {
     pub verdict: Verdict,
     pub end: End,

@@ -7,7 +7,7 @@ use flit_number::FlitCount;
 
 // After some of the held flits: the data flits before the next control flit, the data flits of the unit last begun, whether a unit
 // ends here, and whether every control flit so far is one that accept takes.
-#[derive(Drop)]
+#[derive(Clone, Copy)]
 pub struct Walk {
     pub left: usize,
     pub run: usize,
@@ -48,7 +48,7 @@ pub fn passed(flit: &[u8], w: Walk) -> Walk
 }
 
 // The walk at the cursor, and over all held flits.
-#[derive(Drop)]
+#[derive(Clone, Copy)]
 pub struct Cut {
     pub cursor: Walk,
     pub whole: Walk,

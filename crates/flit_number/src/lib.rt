@@ -1,22 +1,25 @@
 // Four kinds of number that are never used one for the other (01, "Numbers"): a sequence number, a count of flits, the last
 // number received and the next one wanted. Each is a type of its own, and the functions below are the only ways between them.
+
+#![tactic(auto)]
+
 ghost use Rattle.std.specs.Prelude.{◌≡◌};
 ghost use Rattle.flit_number.specs.Numbers.{width, after, difference, last_received, acknowledge_for, wanted_by};
 
 // The number of a TL flit, modulo 65536.
-#[derive(Drop)]
+#[derive(Clone, Copy)]
 pub struct SequenceNumber(pub u16);
 
 // A count of flits.
-#[derive(Drop)]
+#[derive(Clone, Copy)]
 pub struct FlitCount(pub usize);
 
 // The number of the last TL flit received.
-#[derive(Drop)]
+#[derive(Clone, Copy)]
 pub struct LastReceived(pub u16);
 
 // The number of the next TL flit wanted.
-#[derive(Drop)]
+#[derive(Clone, Copy)]
 pub struct NextWanted(pub u16);
 
 // The number of the flit that stands `flits` after flit `from`.

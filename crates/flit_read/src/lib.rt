@@ -1,5 +1,8 @@
 // The fields of control, idle and replay flits, and their places: read here, written in the crate flit_write (01, "Fields"). Nothing above
 // these two speaks of a byte or a bit of a flit.
+
+#![tactic(auto)]
+
 pub mod copy;
 pub mod place;
 pub mod read;
@@ -7,7 +10,7 @@ pub mod read;
 use flit_number::{FlitCount, LastReceived, SequenceNumber};
 
 // What is read of an arriving flit. Which of it counts goes by the run length.
-#[derive(Drop)]
+#[derive(Clone, Copy)]
 pub struct Fields {
     pub information: u64,
     pub acks: FlitCount,

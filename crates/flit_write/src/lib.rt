@@ -1,4 +1,7 @@
 // Writing flits. Each is made as a flit by value, and the check is laid over it last.
+
+#![tactic(auto)]
+
 ghost use Rattle.std.specs.Prelude.{◌≡◌, ◌++◌, ◌+◌, ◌≤◌, take, drop};
 ghost use Rattle.crc.specs.Register.{table};
 ghost use Rattle.flit_read.specs.Bytes.{bit, bytes, mark};
@@ -72,7 +75,7 @@ pub fn idle_flit(t: &[u64; 256], acks: FlitCount, stalled: bool, owed: FlitCount
 }
 
 // What a replay flit says, its run length and its check apart.
-#[derive(Drop)]
+#[derive(Clone, Copy)]
 pub struct Replay {
     pub information: u64,
     pub previous: FlitCount,

@@ -8,7 +8,7 @@ use end_state::{End, Refusal, Verdict};
 use receive_answer::Answer;
 
 // The answer, and the end after it.
-#[derive(Drop)]
+#[derive(Clone, Copy)]
 pub struct Received {
     pub answer: Answer,
     pub end: End,

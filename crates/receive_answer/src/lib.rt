@@ -9,7 +9,7 @@ use end_state::{End, Mode, Refusal};
 use flit_number::FlitCount;
 use flit_read::Fields;
 
-#[derive(Drop)]
+#[derive(Clone, Copy)]
 pub enum Answer {
     Refused(Refusal),
     Held,
@@ -28,7 +28,7 @@ pub enum Answer {
 
 // What an answer tells, in document 01's numbers: of a refusal, of the data flits that it delivered, of the cause of going down; 0 where it
 // tells none.
-#[derive(Drop)]
+#[derive(Clone, Copy)]
 pub struct Told {
     pub refusal: u64,
     pub delivered: usize,

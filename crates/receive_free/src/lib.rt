@@ -7,7 +7,7 @@ use end_state::{End, ring, walk};
 use flit_number::FlitCount;
 
 // A unit border among the oldest flits, and the data flits of the unit that begins there.
-#[derive(Drop)]
+#[derive(Clone, Copy)]
 pub struct Border {
     pub flits: usize,
     pub run: usize,

@@ -8,14 +8,14 @@ use end_state::{End, Refusal, Verdict};
 use flit_number::FlitCount;
 
 // What send answers: a refusal, or the number of flits written.
-#[derive(Drop)]
+#[derive(Clone, Copy)]
 pub enum Answer {
     Refused(Refusal),
     Flits(FlitCount),
 }
 
 // The answer, and the end after it.
-#[derive(Drop)]
+#[derive(Clone, Copy)]
 pub struct Sent {
     pub answer: Answer,
     pub end: End,
@@ -64,7 +64,7 @@ pub fn send_with(
 }
 
 // What is found before anything is written, with the run length of the control flit before the cursor.
-#[derive(Drop)]
+#[derive(Clone, Copy)]
 struct Found {
     pub previous: FlitCount,
     pub verdict: Verdict,

@@ -7,7 +7,7 @@ use end_state::Mode;
 use receive_answer::Answer;
 
 // A word and its length: the bytes after it are not looked at.
-#[derive(Drop)]
+#[derive(Clone, Copy)]
 struct Word([u8; 9], usize);
 
 // Writes the word of an answer.

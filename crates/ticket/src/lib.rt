@@ -8,7 +8,7 @@ use flit_number::FlitCount;
 use receive_answer::Answer;
 
 // TL flits accepted, TL flits delivered, answers damaged, units duplicate, times gone down.
-#[derive(Drop)]
+#[derive(Clone, Copy)]
 pub struct Ticket {
     pub accepted: u32,
     pub delivered: u32,
@@ -18,7 +18,7 @@ pub struct Ticket {
 }
 
 // The bytes of a ticket's text in a buffer, or none where the buffer is shorter than it.
-#[derive(Drop)]
+#[derive(Clone, Copy)]
 pub enum Output {
     Written(usize),
     Short,

@@ -1,0 +1,41 @@
+-- `flit_read::copy::put` meets its contract: the first i bytes of the part are those of the flit.
+use lib.Seq.{take-suc-set, take-suc, take_all}
+use lib.ListN.{length, get_or, length-set}
+use native.Mathlib.Numerals.{add-one}
+use native.Mathlib.Omega.{arith}
+use mathlib.Core.Path.{refl, sym, ◌∙◌}
+use Prim.Native.Nat.{◌-◌, ◌<◌}
+use Rattle.flit_read.proofs.copy.put.Goals as goal
+
+pub loop-i-init : goal.loop-i-init
+loop-i-init c = (omega arith, omega arith, refl)
+
+pub bounds-flit-i : goal.bounds-flit-i
+bounds-flit-i c = omega arith
+
+pub bounds-part-i : goal.bounds-part-i
+bounds-part-i c = omega arith
+
+pub overflow_add-i : goal.overflow_add-i
+overflow_add-i c = omega arith
+
+pub loop-i-smaller : goal.loop-i-smaller
+loop-i-smaller c = omega arith
+
+pub loop-i-preserved : goal.loop-i-preserved
+loop-i-preserved c = let l = c.loop-i in
+    let flit = c.args.flit in
+    let p : l.i < length flit = omega arith in
+    let q : l.i < length l.part = omega arith in (
+      omega arith,
+      simp length-set (omega arith),
+      rw (add-one, take-suc-set l.part l.i (get_or flit l.i 0) q, take-suc flit l.i 0 p, l.invariant.2),
+    )
+
+pub shape_of-part : goal.shape_of-part
+shape_of-part c = omega arith
+
+pub returns : goal.returns
+returns c = let l = c.loop-i in
+    let flit = c.args.flit in
+    sym (take_all l.i l.part (omega arith)) ∙ l.invariant.2 ∙ take_all l.i flit (omega arith)
