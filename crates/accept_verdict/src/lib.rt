@@ -1,4 +1,7 @@
 // What accept refuses (01, "Refusals by number").
+
+#![tactic(auto)]
+
 ghost use Rattle.std.specs.Prelude.{◌≡◌};
 ghost use Rattle.accept_verdict.specs.Admission.{unit_shaped as unit_shaped_of, accept_verdict};
 

@@ -1,4 +1,7 @@
 // Tokens of a line, and the numbers and bytes that they say.
+
+#![tactic(auto)]
+
 pub mod digits;
 
 ghost use Rattle.std.specs.Prelude.{cond, [], ◌∷◌, ◌≡◌, ◌+◌, ◌≤◌, ltb, length, take, drop};

@@ -1,4 +1,7 @@
 // An acknowledgement counts: units all of whose flits are acknowledged leave the store (01, Receive 4).
+
+#![tactic(auto)]
+
 ghost use Rattle.std.specs.Prelude.{◌≡◌, ◌+◌, ◌*◌, ◌<◌, ◌≤◌, length};
 ghost use Rattle.end_state.specs.Ring.{walk_begun, walked};
 ghost use Rattle.receive_free.specs.Acknowledge.{Covered, last_border, freed as freed_of, sent_anew as sent_anew_of, acknowledged as acknowledged_of};

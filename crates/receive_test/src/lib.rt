@@ -1,5 +1,8 @@
 // What is asked of an arriving flit (01, Receive 1 to 3): whether it is held, what is checked, damaged and skipped, and what it
 // acknowledges.
+
+#![tactic(auto)]
+
 ghost use Rattle.std.specs.Prelude.{◌≡◌, ◌&&◌, ◌≤◌, ◌*◌, length};
 ghost use Rattle.crc.specs.Register.{table};
 ghost use Rattle.crc.specs.Unit.{right};

@@ -1,5 +1,8 @@
 // What one send moves: untold, pending, the cursor and sent (01, "Send"). `run` is everywhere the run length of the control flit before the
 // cursor.
+
+#![tactic(auto)]
+
 ghost use Rattle.std.specs.Prelude.{◌≡◌, cond, ◌≤◌, ltb};
 ghost use Rattle.send_state.specs.Moves.{carried as Carried_of, fallen as fallen_of, past_unit as past_unit_of, moved as moved_of};
 

@@ -1,5 +1,8 @@
 // Text into a lent buffer: bytes as they are, and numbers in decimal. Each function writes from a place on and answers the place
 // after what it wrote.
+
+#![tactic(auto)]
+
 ghost use Rattle.std.specs.Prelude.{◌++◌, ◌+◌, ◌*◌, ◌≤◌, length};
 ghost use Rattle.text.specs.Text.{decimal, filled, Puts};
 

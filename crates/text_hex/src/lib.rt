@@ -1,5 +1,8 @@
 // Bytes as text: a checksum, and hexadecimal into a lent buffer. What writes does so from a place on and answers the place after what
 // it wrote.
+
+#![tactic(auto)]
+
 ghost use Rattle.std.specs.Prelude.{◌≡◌, ◌+◌, ◌*◌, ◌^◌, ◌<◌, ◌≤◌, length};
 ghost use Rattle.text.specs.Text.{Puts};
 ghost use Rattle.text_hex.specs.Dump.{adler as adler_of, hex_digit as hex_digit_of, hex_digits, hex};
