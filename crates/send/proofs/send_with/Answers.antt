@@ -4,7 +4,7 @@ use mathlib.Core.Path.{◌≡◌, sym, ap, ap₂, ◌∙◌}
 use Prim.Native.Nat.{ℕ}
 use lib.ListN.{length, drop}
 use Rattle.end_state.specs.declared.End.{End}
-use Rattle.end_state.specs.declared.Verdict.TheVariants.{Refused, Admitted}
+use Rattle.end_state.specs.declared.Verdict.TheVariants.{Refused}
 use Rattle.send_state.specs.Moves.{moved}
 use Rattle.send_burst.specs.Burst.{burst, burst_flits}
 use Rattle.send.specs.Send.{send_verdict}
@@ -21,22 +21,17 @@ the_sent n e = record { answer = answer.Flits (record { 0 = n }); end = e }
 abbrev starts : List ℕ → List ℕ → List ℕ
 starts b o = b ++ drop (length b) o
 
--- the call is admitted
-admits : (c : goal.In-Admitted) → let a = c.args in
-    send_verdict a.e a.store.now (length a.output.now) ≡ Admitted
-admits c = sym c.find_verdict-found.ensures.verdict_value ∙ c.in-Admitted.is
-
 pub write_burst-flits-requires : goal.write_burst-flits-requires
 write_burst-flits-requires c = let d = c in
     let a = d.args in
-    let v = admits (goal.at.write_burst-flits-requires c).In-Admitted in
+    let v = (sym c.find_verdict-found.ensures.verdict_value ∙ c.in-Admitted.is) in
     let w = admitted a.e a.store.now (length a.output.now) v in
     record { t_value = (d.requires, w.its_store, w.is_sound); run_value = (d.find_verdict-found.ensures.previous_value v, w.room) }
 
 pub moved-end-requires : goal.moved-end-requires
 moved-end-requires c = let d = c in
     let a = d.args in
-    let v = admits (goal.at.moved-end-requires c).In-Admitted in
+    let v = (sym c.find_verdict-found.ensures.verdict_value ∙ c.in-Admitted.is) in
     let w = admitted a.e a.store.now (length a.output.now) v in
     (ready a.e a.store.now d.find_verdict-found.result.previous.0 w.its_store w.is_sound (d.find_verdict-found.ensures.previous_value v)).small
 
@@ -49,7 +44,7 @@ returns-in-Refused c = let a = c.args in
 pub returns-in-Admitted : goal.returns-in-Admitted
 returns-in-Admitted c = let d = c in
     let a = d.args in
-    let v = admits (goal.at.returns-in-Admitted c).In-Admitted in
+    let v = (sym c.find_verdict-found.ensures.verdict_value ∙ c.in-Admitted.is) in
     let r = d.find_verdict-found.ensures.previous_value v in
     let k = c.write_burst-flits in
     let o = a.output.now in record {
