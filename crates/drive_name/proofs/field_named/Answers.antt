@@ -9,9 +9,7 @@ use Rattle.drive_name.specs.declared.EndField.TheVariants as field
 use Rattle.drive_name.specs.declared.FieldNamed.TheVariants as a_field
 use Rattle.drive_name.specs.Names.{field_or, information_of, receiving_of, field_of}
 use Rattle.drive_name.proofs.Places.{named, known_at, none_at}
-use borrow.Author.Rules.{rules}
-use Rattle.drive_name.proofs.field_named.Statement.{statement}
-use Rattle.drive_name.proofs.field_named.Tie as tie
+use Rattle.drive_name.proofs.field_named.Goals as goal
 
 -- the words after the first
 abbrev words : List (List ℕ)
@@ -31,34 +29,15 @@ by_word : (t : List ℕ) → named a_field.Known a_field.Unknown t (ascii "capac
 unfolding named field_of receiving_of information_of field_or
 by_word t = refl
 
-slice_aggregate_place : tie.Need-slice-aggregate-place
-slice_aggregate_place c = search rules
-
-place_requires : tie.Need-place-requires
-place_requires c κs = search rules
-
-mul_named : tie.Need-overflow-mul-named
-mul_named c = search rules
-
-array_copy_out_named : tie.Need-array-copy-out-named
-array_copy_out_named c = search rules
-
-returns : tie.Need-returns
+pub returns-then-n-lt26 : goal.returns-then-n-lt26
 unfolding row plain all_plain
-returns c =
-    let t = c.before.before.before.before.before.args.token.now in
-    let p = c.before.before.place in
-    known_at a_field.Known a_field.Unknown t (ascii "capacity") words fields p.result p.ensures refl field.Capacity refl c.before.if1.true
+returns-then-n-lt26 c = let t = c.args.token.now in
+    let p = c.place-n in
+    known_at a_field.Known a_field.Unknown t (ascii "capacity") words fields p.result p.ensures refl field.Capacity refl c.if-n-lt26.true
     ∙ by_word t
 
-returns_2 : tie.Need-returns-2
+pub returns-else-n-lt26 : goal.returns-else-n-lt26
 unfolding row plain all_plain
-returns_2 c =
-    let t = c.before.before.before.before.args.token.now in
-    let p = c.before.place in
-    none_at a_field.Known a_field.Unknown t (ascii "capacity") words fields p.result p.ensures refl c.if1.false ∙ by_word t
-
-pub field_named_spec : {M : Type 1} → statement M
-field_named_spec =
-    tie.close
-    (tie.spec slice_aggregate_place place_requires mul_named array_copy_out_named returns returns_2)
+returns-else-n-lt26 c = let t = c.args.token.now in
+    let p = c.place-n in
+    none_at a_field.Known a_field.Unknown t (ascii "capacity") words fields p.result p.ensures refl c.if-n-lt26.false ∙ by_word t
