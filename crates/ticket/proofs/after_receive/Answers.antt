@@ -1,17 +1,17 @@
 -- `ticket::after_receive` meets its contract, answer by answer.
-use mathlib.Core.Path.{◌≡◌, ap}
+use mathlib.Core.Path.{ap}
 use Prim.Native.Nat.{◌+◌}
 use native.Mathlib.Omega.{arith}
 use Rattle.receive_answer.specs.declared.Answer.{Answer}
-use Rattle.ticket.specs.Ticket.{TicketCall, adds, ticket_after, counts, nothing}
+use Rattle.ticket.specs.Ticket.{TicketCall, adds, counts}
 use Rattle.ticket.proofs.Laws.{after_is, unchanged_is}
 use Rattle.ticket.proofs.after_receive.Goals as goal
 
 pub returns-in-Delivered : goal.returns-in-Delivered
 unfolding adds
 returns-in-Delivered c = let a = c.args in
-    let told = c.answer-1.given in
-    after_is a.t (TicketCall.receives a.answer) (counts 0 (told.0.0.0 + 1) 0 0 0) _ (ap (λ (a : Answer). adds (TicketCall.receives a)) told.1)
+    let told = c.in-Delivered in
+    after_is a.t (TicketCall.receives a.answer) (counts 0 (told.data.0 + 1) 0 0 0) _ (ap (λ (a : Answer). adds (TicketCall.receives a)) told.is)
     (omega arith) (omega arith) (omega arith) (omega arith) (omega arith)
 
 pub returns-in-Damaged : goal.returns-in-Damaged
@@ -29,34 +29,45 @@ unfolding adds
 returns-in-Down c = let a = c.args in
     after_is a.t (TicketCall.receives a.answer) (counts 0 0 0 0 1) _ (ap (λ (a : Answer). adds (TicketCall.receives a)) c.in-Down.is) (omega arith) (omega arith) (omega arith) (omega arith) (omega arith)
 
--- an answer that counts nothing
-stays : (s : goal.Start) → adds (TicketCall.receives s.args.answer) ≡ nothing → s.args.t ≡ ticket_after s.args.t (TicketCall.receives s.args.answer)
-stays s.Start e = unchanged_is s.args.t (TicketCall.receives s.args.answer) (omega arith) (omega arith) (omega arith) (omega arith) (omega arith) e
-
+-- the answers that count nothing
 pub returns-in-Refused : goal.returns-in-Refused
 unfolding adds
-returns-in-Refused c = stays (goal.at.returns-in-Refused c).Start (ap (λ (a : Answer). adds (TicketCall.receives a)) c.in-Refused.is)
+returns-in-Refused c =
+    let a = c.args in
+    unchanged_is a.t (TicketCall.receives a.answer) (omega arith) (omega arith) (omega arith) (omega arith) (omega arith) (ap (λ (a : Answer). adds (TicketCall.receives a)) c.in-Refused.is)
 
 pub returns-in-Held : goal.returns-in-Held
 unfolding adds
-returns-in-Held c = stays (goal.at.returns-in-Held c).Start (ap (λ (a : Answer). adds (TicketCall.receives a)) c.in-Held.is)
+returns-in-Held c =
+    let a = c.args in
+    unchanged_is a.t (TicketCall.receives a.answer) (omega arith) (omega arith) (omega arith) (omega arith) (omega arith) (ap (λ (a : Answer). adds (TicketCall.receives a)) c.in-Held.is)
 
 pub returns-in-Skipped : goal.returns-in-Skipped
 unfolding adds
-returns-in-Skipped c = stays (goal.at.returns-in-Skipped c).Start (ap (λ (a : Answer). adds (TicketCall.receives a)) c.in-Skipped.is)
+returns-in-Skipped c =
+    let a = c.args in
+    unchanged_is a.t (TicketCall.receives a.answer) (omega arith) (omega arith) (omega arith) (omega arith) (omega arith) (ap (λ (a : Answer). adds (TicketCall.receives a)) c.in-Skipped.is)
 
 pub returns-in-Idle : goal.returns-in-Idle
 unfolding adds
-returns-in-Idle c = stays (goal.at.returns-in-Idle c).Start (ap (λ (a : Answer). adds (TicketCall.receives a)) c.in-Idle.is)
+returns-in-Idle c =
+    let a = c.args in
+    unchanged_is a.t (TicketCall.receives a.answer) (omega arith) (omega arith) (omega arith) (omega arith) (omega arith) (ap (λ (a : Answer). adds (TicketCall.receives a)) c.in-Idle.is)
 
 pub returns-in-Replayed : goal.returns-in-Replayed
 unfolding adds
-returns-in-Replayed c = stays (goal.at.returns-in-Replayed c).Start (ap (λ (a : Answer). adds (TicketCall.receives a)) c.in-Replayed.is)
+returns-in-Replayed c =
+    let a = c.args in
+    unchanged_is a.t (TicketCall.receives a.answer) (omega arith) (omega arith) (omega arith) (omega arith) (omega arith) (ap (λ (a : Answer). adds (TicketCall.receives a)) c.in-Replayed.is)
 
 pub returns-in-Ahead : goal.returns-in-Ahead
 unfolding adds
-returns-in-Ahead c = stays (goal.at.returns-in-Ahead c).Start (ap (λ (a : Answer). adds (TicketCall.receives a)) c.in-Ahead.is)
+returns-in-Ahead c =
+    let a = c.args in
+    unchanged_is a.t (TicketCall.receives a.answer) (omega arith) (omega arith) (omega arith) (omega arith) (omega arith) (ap (λ (a : Answer). adds (TicketCall.receives a)) c.in-Ahead.is)
 
 pub returns-in-Discarded : goal.returns-in-Discarded
 unfolding adds
-returns-in-Discarded c = stays (goal.at.returns-in-Discarded c).Start (ap (λ (a : Answer). adds (TicketCall.receives a)) c.in-Discarded.is)
+returns-in-Discarded c =
+    let a = c.args in
+    unchanged_is a.t (TicketCall.receives a.answer) (omega arith) (omega arith) (omega arith) (omega arith) (omega arith) (ap (λ (a : Answer). adds (TicketCall.receives a)) c.in-Discarded.is)

@@ -44,9 +44,11 @@ put-requires c = simp length-take (omega arith)
 pub returns-then-bytes-out : goal.returns-then-bytes-out
 returns-then-bytes-out c = let p = c.put_ticket-bytes.ensures in
     let a = c.args in
-    fits a.t a.out.now _ _ _ _ (omega arith) (puts_start p (omega (arith, text_short a.t))) (omega arith) c.put.ensures
+    let f = fits a.t a.out.now _ _ _ _ (omega arith) (puts_start p (omega (arith, text_short a.t))) (omega arith) c.put.ensures in
+    record { value = f.0; out_after = f.1 }
 
 pub returns-else-bytes-out : goal.returns-else-bytes-out
 returns-else-bytes-out c = let p = c.put_ticket-bytes.ensures in
     let a = c.args in
-    short a.t a.out.now c.put_ticket-bytes.result (omega arith) (omega arith)
+    let f = short a.t a.out.now c.put_ticket-bytes.result (omega arith) (omega arith) in
+    record { value = f.0; out_after = f.1 }
