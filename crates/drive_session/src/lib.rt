@@ -1,5 +1,8 @@
 // Driving two ends of a link from text: from what is kept and input bytes to what is kept and output bytes. The program moves the
 // bytes.
+
+#![tactic(auto)]
+
 ghost use Rattle.std.specs.Prelude.{◌≡◌, ◌≤◌, length};
 ghost use Rattle.crc.specs.Register.{table};
 ghost use Rattle.drive_pair.specs.Pair.{State, state_in, Ready, Goes};
