@@ -1,4 +1,7 @@
 // Accept takes one unit from the transaction layer: its data flits, then its control flit.
+
+#![tactic(auto)]
+
 ghost use Rattle.std.specs.Prelude.{◌≡◌, ◌+◌, ◌*◌, ◌≤◌, length};
 ghost use Rattle.end_state.specs.Update.{with_held};
 ghost use Rattle.accept.specs.Accept.{flits_stored, accept as accept_of, accept_store};

@@ -1,5 +1,8 @@
 // The burst of one send: two replay flits, a unit, or an idle flit. `run` is everywhere the run length of the control flit before
 // the cursor.
+
+#![tactic(auto)]
+
 ghost use Rattle.std.specs.Prelude.{◌≡◌, true, ◌++◌, ◌≤◌, length, drop};
 ghost use Rattle.crc.specs.Register.{table};
 ghost use Rattle.flit_write.specs.Flits.{idle_flit};

@@ -1,4 +1,7 @@
 // The two replay flits of one send (01, Send 1). `run` is the run length of the control flit before the cursor.
+
+#![tactic(auto)]
+
 ghost use Rattle.std.specs.Prelude.{◌≡◌, ◌++◌, ◌≤◌, length, drop};
 ghost use Rattle.crc.specs.Register.{table};
 ghost use Rattle.send_replay.specs.Replays.{replay_sent};

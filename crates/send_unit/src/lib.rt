@@ -1,4 +1,7 @@
 // A unit as it is sent (01, Send 2).
+
+#![tactic(auto)]
+
 ghost use Rattle.std.specs.Prelude.{◌≡◌, ◌++◌, ◌+◌, ◌*◌, ◌<◌, ◌≤◌, length, drop};
 ghost use Rattle.crc.specs.Register.{table};
 ghost use Rattle.end_state.specs.Refusals.{cursor_at};
