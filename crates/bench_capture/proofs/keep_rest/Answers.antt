@@ -1,18 +1,14 @@
 -- `bench_capture::keep_rest` meets its contract: the first i bytes are moved, and those after them are as they were.
 use mathlib.Core.Path.{◌≡◌, refl, sym, ap, ◌∙◌}
 use mathlib.Core.List.{List, ◌++◌}
-use Prim.Native.Nat.{ℕ, suc, ◌+◌, ◌-◌, ◌≤◌, ◌<◌}
+use Prim.Native.Nat.{ℕ, suc, ◌+◌, ◌-◌, ◌<◌}
 use native.Mathlib.Nat.{add_comm}
 use native.Mathlib.Numerals.{add-one}
 use native.Mathlib.Omega.{arith}
 use lib.ListN.{length, take, drop, set, get_or, length-take, length-drop, length-set}
 use lib.Seq.{take-suc, drop-cons, append_snoc, get_or-append-add, get_or-drop, set_at}
-use Rattle.bench_capture.proofs.keep_rest.Statement.{statement}
-use Rattle.bench_capture.proofs.keep_rest.Tie as tie
-
--- the first i bytes moved
-abbrev moved : List ℕ → ℕ → ℕ → List ℕ
-moved xs from i = take i (drop from xs) ++ drop i xs
+use Rattle.bench_capture.proofs.keep_rest.Invariants.{moved}
+use Rattle.bench_capture.proofs.keep_rest.Goals as goal
 
 moved_read : (xs : List ℕ) (from i : ℕ) → from + i < length xs → get_or (moved xs from i) (from + i) 0 ≡ get_or (drop from xs) i 0
 moved_read xs from i h =
@@ -35,64 +31,39 @@ moved_next xs from i h =
     ∙ sym (append_snoc (take i (drop from xs)) v (drop (suc i) xs))
     ∙ ap (λ (l : List ℕ). l ++ drop (suc i) xs) (sym (take-suc (drop from xs) i 0 inside))
 
-abbrev invariant-loop : tie.invariant-loop
-invariant-loop input₀ from rest i₀ input i = (i ≤ rest) × (input ≡ moved input₀ from i) × (length input ≡ length input₀)
+pub loop-i-init : goal.loop-i-init
+loop-i-init c = (omega arith, refl, refl)
 
-abbrev decreases-loop : tie.decreases-loop
-decreases-loop input₀ from rest i₀ input i = rest - i
+pub overflow_add-input : goal.overflow_add-input
+overflow_add-input c = omega arith
 
-loop_holds : tie.Need-loop-init invariant-loop decreases-loop
-loop_holds c = (omega arith, refl, refl)
+pub bounds-input-from : goal.bounds-input-from
+bounds-input-from c = omega arith
 
-add_input : tie.Need-overflow-add-input invariant-loop decreases-loop
-add_input c = omega arith
+pub bounds-input-i : goal.bounds-input-i
+bounds-input-i c = omega arith
 
-slice_read_input : tie.Need-slice-read-input invariant-loop decreases-loop
-slice_read_input c = omega arith
+pub overflow_add-i : goal.overflow_add-i
+overflow_add-i c = omega arith
 
-slice_write_input : tie.Need-slice-write-input invariant-loop decreases-loop
-slice_write_input c = omega arith
+pub loop-i-smaller : goal.loop-i-smaller
+loop-i-smaller c = omega arith
 
-add_i : tie.Need-overflow-add-i invariant-loop decreases-loop
-add_i c = omega arith
-
-loop_less : tie.Need-loop-smaller invariant-loop decreases-loop
-loop_less c = omega arith
-
-loop_again : tie.Need-loop-preserved invariant-loop decreases-loop
-loop_again c =
-    let a = c.before.before.before.args in
-    let l = c.before.before.loop in
+pub loop-i-preserved : goal.loop-i-preserved
+loop-i-preserved c = let a = c.args in
+    let l = c.loop-i in
     let inside : a.from + l.i < length a.input.now = omega arith in (
       omega arith,
       rw (l.invariant.1, add-one) (moved_next a.input.now a.from l.i inside),
       simp length-set l.invariant.2,
     )
 
-same_length : tie.Need-same-length invariant-loop decreases-loop
-same_length c =
-    let l = c.before.loop in
+pub shape_of-input : goal.shape_of-input
+shape_of-input c = let l = c.loop-i in
     l.invariant.2
 
-returns : tie.Need-returns invariant-loop decreases-loop
-returns c =
-    let a = c.before.before.args in
-    let l = c.before.loop in
+pub returns : goal.returns
+returns c = let a = c.args in
+    let l = c.loop-i in
     let e : l.i ≡ a.rest = omega arith in
     l.invariant.1 ∙ ap (moved a.input.now a.from) e
-
-pub keep_rest_spec : {M : Type 1} → statement M
-keep_rest_spec =
-    tie.close
-    (tie.spec
-    invariant-loop
-    decreases-loop
-    loop_holds
-    add_input
-    slice_read_input
-    slice_write_input
-    add_i
-    loop_less
-    loop_again
-    same_length
-    returns)
