@@ -1,4 +1,7 @@
 // Two ends of a link and the line so far: what one byte of the input does. A command goes to the end that its line names.
+
+#![tactic(auto)]
+
 ghost use Rattle.std.specs.Prelude.{◌≡◌, ◌+◌, ◌≤◌, length, take};
 ghost use Rattle.crc.specs.Register.{table};
 ghost use Rattle.drive_script.specs.Script.{InRange, bytes_in};
