@@ -1,5 +1,8 @@
 // A capture read into a fresh receiver (01, "The bench ticket"): from what is kept and input bytes to what is kept and output bytes. The
 // program moves the bytes.
+
+#![tactic(auto)]
+
 ghost use Rattle.std.specs.Prelude.{◌≡◌, [], ◌++◌, ◌+◌, ◌*◌, ◌/◌, ◌^◌, ◌≤◌, ◌<◌, length, take, drop};
 ghost use Rattle.crc.specs.Register.{table};
 ghost use Rattle.text.specs.Text.{Puts};

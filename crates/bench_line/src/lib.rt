@@ -1,4 +1,7 @@
 // The lines that bench prints (01, "The bench ticket").
+
+#![tactic(auto)]
+
 ghost use Rattle.std.specs.Prelude.{◌+◌, ◌≤◌, length};
 ghost use Rattle.text.specs.Text.{Puts};
 ghost use Rattle.bench_line.specs.Line.{flit_line, last_lines};

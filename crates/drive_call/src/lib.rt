@@ -1,6 +1,9 @@
 // What the commands start, accept, send, receive and fill do to an end with its ticket and its kept buffers: a store buffer, of which the
 // first bytes are the store, and a hold buffer, of which the first 576 are the hold. All other bytes of the two are 0 between commands, so
 // what is lent past the kept bytes is zeros. Nothing is printed here.
+
+#![tactic(auto)]
+
 ghost use Rattle.std.specs.Prelude.{◌≡◌, ◌+◌, ◌-◌, ◌≤◌, length, take};
 ghost use Rattle.crc.specs.Register.{table};
 ghost use Rattle.drive_call.specs.Sides.{Clean, repeated, lent_bytes, side_started, accepts, accepts_store, sends, sends_output, receives, receives_hold, fill_fits, fills_store};

@@ -1,4 +1,7 @@
 // What a line says before the state: the number of a refusal, the flits sent, the answer to a flit received.
+
+#![tactic(auto)]
+
 ghost use Rattle.std.specs.Prelude.{◌≡◌, ◌+◌, ◌*◌, ◌≤◌, length};
 ghost use Rattle.text.specs.Text.{Puts};
 ghost use Rattle.send.specs.Send.{flits_written};

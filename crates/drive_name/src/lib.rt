@@ -1,4 +1,7 @@
 // The words of ends, fields and counts.
+
+#![tactic(auto)]
+
 ghost use Rattle.std.specs.Prelude.{◌≡◌};
 ghost use Rattle.drive_token.specs.Tokens.{tokens as tokens_of};
 ghost use Rattle.drive_name.specs.Names.{word_place, end_of, field_of, most as most_of, key_of};

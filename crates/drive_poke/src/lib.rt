@@ -1,4 +1,7 @@
 // What the commands poke and count set: a field of a state, and a count of a ticket.
+
+#![tactic(auto)]
+
 ghost use Rattle.std.specs.Prelude.{◌≡◌, ◌≤◌, set};
 ghost use Rattle.drive_name.specs.Names.{most};
 ghost use Rattle.end_state.specs.Update.{with_mode as with_mode_of};

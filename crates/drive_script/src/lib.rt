@@ -1,5 +1,8 @@
 // Script lines: text that drives two ends by hand. One line, without its line feed, is read into a command; a line that is no command
 // is bad.
+
+#![tactic(auto)]
+
 mod commands;
 
 ghost use Rattle.std.specs.Prelude.{◌∷◌, ◌≡◌, ◌≤◌, length};

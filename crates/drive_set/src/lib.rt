@@ -1,4 +1,7 @@
 // The commands that only set a part of an end with its ticket: poke, lend and count.
+
+#![tactic(auto)]
+
 ghost use Rattle.std.specs.Prelude.{◌≡◌, ◌≤◌};
 ghost use Rattle.drive_name.specs.Names.{most};
 ghost use Rattle.drive_set.specs.Settings.{side_poked, side_lent, side_counted};

@@ -1,4 +1,7 @@
 // An end with its ticket and how much of its buffers is lent.
+
+#![tactic(auto)]
+
 ghost use Rattle.std.specs.Prelude.{◌≡◌};
 ghost use Rattle.ticket.specs.Ticket.{nothing};
 ghost use Rattle.drive_side.specs.Side.{after_call};

@@ -1,5 +1,8 @@
 // The state of an end and the ticket on one line. Each function writes into a lent buffer from a place on and answers the place
 // after what it wrote.
+
+#![tactic(auto)]
+
 ghost use Rattle.std.specs.Prelude.{◌++◌, ◌+◌, ◌≤◌, length};
 ghost use Rattle.text.specs.Text.{ascii, Puts};
 ghost use Rattle.drive_state.specs.Show.{ring_part, sending_part, receiving_part, after_mode, state_text, ticket_text};

@@ -6,7 +6,7 @@ use Prim.Native.Nat.{ℕ, ◌+◌, ◌≤◌}
 use native.Mathlib.Omega.{arith}
 use Rattle.proof_model.proofs.Stream.{Stream, num}
 use Rattle.proof_model.proofs.End.{Sender, End}
-use Rattle.proof_model.proofs.Step.{Acked, keeps, passes, freed, again, nacked, Discard, more, enough}
+use Rattle.proof_model.proofs.Step.{Acked, keeps, passes, again, nacked, Discard, more, enough}
 use Rattle.proof_model.proofs.Num.{num_le, num_of_le}
 use Rattle.proof_model.proofs.Chain.{Chain}
 use Rattle.proof_model.proofs.Inv.{Local, Tail}

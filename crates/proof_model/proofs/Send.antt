@@ -7,10 +7,10 @@ use native.Mathlib.Omega.{arith}
 use native.Mathlib.Decide.{dec_lt}
 use lib.ListN.{length, length-append}
 use Rattle.proof_model.proofs.Stream.{Bytes, Stream, owed, num, some, Item, part, control, idle}
-use Rattle.proof_model.proofs.End.{Mode, run, wait, Sender, Receiver, End}
+use Rattle.proof_model.proofs.End.{Mode, run, wait, down, Sender, Receiver, End}
 use Rattle.proof_model.proofs.Step.{item, accept, Room, tell, told, moved, carried, Send, replays, alone, burst, idles}
 use Rattle.proof_model.proofs.Num.{num_le}
-use Rattle.proof_model.proofs.Chain.{Chain, after, final, Wire, grows, final_append, wire_append}
+use Rattle.proof_model.proofs.Chain.{Chain, after, final, Wire, final_append, wire_append}
 use Rattle.proof_model.proofs.Inv.{Local, At, Tail, Head, Inv}
 
 -- what a burst has to show: z is where the wire ended before it
@@ -186,6 +186,7 @@ module _ (C : ℕ) (f g : Stream) where
   tell_at : (c : Chain) (a k : ℕ) (r : Receiver) (m : Mode) → At g c a r m → At g c a (tell k r) m
   tell_at c a k r run h = record { pos = h.pos; hold = h.hold; bit = h.bit; owes = h.owes; told = h.told; behind = h.behind }
   tell_at c a k r wait h = tt
+  tell_at c a k r down h = elim h [ ]
 
   still : (Ok : Bool → Type 0) (e e' : End) (d : Chain) (b : List Item) → Head g d e → Send Ok f g e b e' → Head g d e'
   still Ok e e' d b h (replays x y m p) =

@@ -1,4 +1,7 @@
 // Receive takes one arriving flit (01, "Receive").
+
+#![tactic(auto)]
+
 ghost use Rattle.std.specs.Prelude.{◌≡◌, ◌≤◌, length};
 ghost use Rattle.crc.specs.Register.{table};
 ghost use Rattle.end_state.specs.Ring.{put_at as put_at_of};

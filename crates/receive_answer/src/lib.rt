@@ -1,4 +1,7 @@
 // What receive answers (01, Receive 1 to 6): a function of the state, the flit's fields and whether the check is right.
+
+#![tactic(auto)]
+
 ghost use Rattle.std.specs.Prelude.{◌≡◌, ◌≤◌, ◌*◌, length};
 ghost use Rattle.crc.specs.Register.{table};
 ghost use Rattle.crc.specs.Unit.{right};

@@ -1,4 +1,7 @@
 // The state after each answer (01, Receive 3 to 6).
+
+#![tactic(auto)]
+
 ghost use Rattle.std.specs.Prelude.{◌≡◌, Bool, true, ◌+◌, ◌≤◌, length};
 ghost use Rattle.end_state.specs.Update.{with_mode as with_mode_of, with_discards, with_gathered};
 ghost use Rattle.end_state.specs.declared.Mode.TheVariants.{Run};

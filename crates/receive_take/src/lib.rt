@@ -1,4 +1,7 @@
 // The state after a flit that is taken (01, Receive 4 to 6): an idle flit, a control flit, a replay flit. Its acknowledgement counts first.
+
+#![tactic(auto)]
+
 ghost use Rattle.std.specs.Prelude.{◌≡◌, ◌∷◌, ◌≤◌, take};
 ghost use Rattle.receive_test.specs.Arrivals.{newly_covered};
 ghost use Rattle.receive_free.specs.Acknowledge.{Covered};

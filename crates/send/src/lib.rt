@@ -1,4 +1,7 @@
 // Send writes what goes on the wire next (01, "Send").
+
+#![tactic(auto)]
+
 ghost use Rattle.std.specs.Prelude.{◌≡◌, length};
 ghost use Rattle.crc.specs.Register.{table};
 ghost use Rattle.end_state.specs.Refusals.{sound, previous_run};

@@ -1,4 +1,7 @@
 // The words for answers and modes, written into a lent buffer from a place on. Each answers the place after its word.
+
+#![tactic(auto)]
+
 ghost use Rattle.std.specs.Prelude.{◌≡◌, ◌+◌, ◌≤◌, length, take};
 ghost use Rattle.text.specs.Text.{Puts};
 ghost use Rattle.text_word.specs.Words.{answer_word, mode_word};

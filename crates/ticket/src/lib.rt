@@ -1,4 +1,7 @@
 // The counts of a session (01, "The bench ticket"): functions that count by value, and the ticket as text.
+
+#![tactic(auto)]
+
 ghost use Rattle.std.specs.Prelude.{◌≡◌, ◌+◌, ◌≤◌, length};
 ghost use Rattle.text.specs.Text.{filled, Puts};
 ghost use Rattle.ticket.specs.Ticket.{TicketCall, nothing, stopped, ticket_after, in_order, text as text_of, answer_for, ticket_output};

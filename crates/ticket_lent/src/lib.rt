@@ -1,5 +1,8 @@
 // Accept and receive with a ticket that the caller lends and the call alters (01, "The bench ticket"): thin functions over ones that
 // count by value.
+
+#![tactic(auto)]
+
 ghost use Rattle.std.specs.Prelude.{◌≡◌, ◌-◌};
 ghost use Rattle.ticket.specs.Ticket.{TicketCall, ticket_after};
 ghost use Rattle.ticket_lent.specs.Counted.{AcceptCounts, ReceiveCounts};

@@ -25,7 +25,7 @@ returns c = let a = c.args in
     let k = c.find_border-border in
     let d = c.flits_between-already.ensures in
     let h : k.result.flits ≡ freed_by a.e a.store.now a.flits.0 =
-    k.ensures.0 ∙ ap (λ (m : ℕ). last_border a.e.capacity.0 a.e.first (walk_begun a.e.kept.0) a.store.now (m + a.flits.0)) d in
+    k.ensures.flits_value ∙ ap (λ (m : ℕ). last_border a.e.capacity.0 a.e.first (walk_begun a.e.kept.0) a.store.now (m + a.flits.0)) d in
     let x = c.number_after-first_open in
     let r = c.freed-next in
     c.sent_anew.ensures

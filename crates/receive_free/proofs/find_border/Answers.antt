@@ -9,6 +9,7 @@ use Rattle.end_state.proofs.Parts.{flit_is}
 use Rattle.receive_free.specs.Acknowledge.{last_border}
 use Rattle.receive_free.proofs.Borders.{border_step}
 use Rattle.receive_free.proofs.find_border.Goals as goal
+use Rattle.receive_free.proofs.find_border.Goals.{After-passed-w}
 
 pub loop-n-init : goal.loop-n-init
 unfolding walk_over last_border

@@ -22,8 +22,8 @@ use Rattle.send_burst.proofs.write_burst.Goals as goal
 pub write_replays-requires : goal.write_replays-requires
 write_replays-requires c = let a = c.args in
     let p = c.requires in
-    let y = ready a.e a.store.now a.run.0 p.0.1 p.0.2 p.1.0 in
-    (p.0.0, y.small, p.1.1)
+    let y = ready a.e a.store.now a.run.0 p.t_value.1 p.t_value.2 p.run_value.0 in
+    (p.t_value.0, y.small, p.run_value.1)
 
 pub returns-then-e : goal.returns-then-e
 returns-then-e c = let a = c.args in
@@ -39,8 +39,8 @@ returns-then-e c = let a = c.args in
 pub write_idle-requires : goal.write_idle-requires
 write_idle-requires c = let a = c.args in
     let p = c.requires in
-    let y = ready a.e a.store.now a.run.0 p.0.1 p.0.2 p.1.0 in
-    (p.0.0, c.carried-acks.ensures.result_bound, y.small, omega (arith, p.1.1))
+    let y = ready a.e a.store.now a.run.0 p.t_value.1 p.t_value.2 p.run_value.0 in
+    (p.t_value.0, c.carried-acks.ensures.result_bound, y.small, omega (arith, p.run_value.1))
 
 pub returns-then-e-cursor : goal.returns-then-e-cursor
 returns-then-e-cursor c = let a = c.args in
@@ -57,33 +57,33 @@ returns-then-e-cursor c = let a = c.args in
 pub write_idle-requires-then-run-gt0 : goal.write_idle-requires-then-run-gt0
 write_idle-requires-then-run-gt0 c = let a = c.args in
     let p = c.requires in
-    let y = ready a.e a.store.now a.run.0 p.0.1 p.0.2 p.1.0 in
-    (p.0.0, c.carried-acks.ensures.result_bound, y.small, omega (arith, p.1.1))
+    let y = ready a.e a.store.now a.run.0 p.t_value.1 p.t_value.2 p.run_value.0 in
+    (p.t_value.0, c.carried-acks.ensures.result_bound, y.small, omega (arith, p.run_value.1))
 
 pub write_unit-requires : goal.write_unit-requires
 write_unit-requires c = let a = c.args in
     let p = c.requires in
-    let y = ready a.e a.store.now a.run.0 p.0.1 p.0.2 p.1.0 in
+    let y = ready a.e a.store.now a.run.0 p.t_value.1 p.t_value.2 p.run_value.0 in
     let w : cursor_at a.e < a.e.held.0 = omega (arith, c.if-e-cursor.false, c.flits_between-cursor.ensures) in
-    record { t_value = (p.0.0, y.size, y.most, y.first, c.carried-left.ensures.result_bound); run_bound = (y.inside w, y.small, omega (arith, p.1.1)) }
+    record { t_value = (p.t_value.0, y.size, y.most, y.first, c.carried-left.ensures.result_bound); run_bound = (y.inside w, y.small, omega (arith, p.run_value.1)) }
 
 pub overflow_add-flits : goal.overflow_add-flits
 overflow_add-flits c = let a = c.args in
     let p = c.requires in
-    let y = ready a.e a.store.now a.run.0 p.0.1 p.0.2 p.1.0 in
+    let y = ready a.e a.store.now a.run.0 p.t_value.1 p.t_value.2 p.run_value.0 in
     omega (arith, y.small)
 
 pub write_unit-requires-else-run-gt0 : goal.write_unit-requires-else-run-gt0
 write_unit-requires-else-run-gt0 c = let a = c.args in
     let p = c.requires in
-    let y = ready a.e a.store.now a.run.0 p.0.1 p.0.2 p.1.0 in
+    let y = ready a.e a.store.now a.run.0 p.t_value.1 p.t_value.2 p.run_value.0 in
     let w : cursor_at a.e < a.e.held.0 = omega (arith, c.if-e-cursor.false, c.flits_between-cursor.ensures) in
-    record { t_value = (p.0.0, y.size, y.most, y.first, c.carried-acks.ensures.result_bound); run_bound = (y.inside w, y.small, omega (arith, p.1.1)) }
+    record { t_value = (p.t_value.0, y.size, y.most, y.first, c.carried-acks.ensures.result_bound); run_bound = (y.inside w, y.small, omega (arith, p.run_value.1)) }
 
 pub returns-then-run-gt0 : goal.returns-then-run-gt0
 returns-then-run-gt0 c = let a = c.args in
     let p = c.requires in
-    let y = ready a.e a.store.now a.run.0 p.0.1 p.0.2 p.1.0 in
+    let y = ready a.e a.store.now a.run.0 p.t_value.1 p.t_value.2 p.run_value.0 in
     let o = a.output.now in
     let n = a.run.0 in
     let h = c.if-e.false in
@@ -109,7 +109,7 @@ returns-then-run-gt0 c = let a = c.args in
 pub returns-else-run-gt0 : goal.returns-else-run-gt0
 returns-else-run-gt0 c = let a = c.args in
     let p = c.requires in
-    let y = ready a.e a.store.now a.run.0 p.0.1 p.0.2 p.1.0 in
+    let y = ready a.e a.store.now a.run.0 p.t_value.1 p.t_value.2 p.run_value.0 in
     let o = a.output.now in
     let n = a.run.0 in
     let h = c.if-e.false in

@@ -4,7 +4,7 @@ use lib.Seq.{take_all}
 use native.Mathlib.Numerals.{add-one}
 use native.Mathlib.Omega.{arith}
 use mathlib.Core.Path.{sym, ap, ◌∙◌}
-use Prim.Native.Nat.{◌-◌, ◌<◌}
+use Prim.Native.Nat.{◌<◌}
 use Rattle.text.specs.Text.{written}
 use Rattle.text.proofs.Laws.{written_none, written_next}
 use Rattle.text.proofs.put.Goals as goal

@@ -1,6 +1,4 @@
 -- `text::put_form` meets its contract: the first i bytes of the form are written, with the first numbers.
-use Prim.Native.Nat.{◌-◌}
-use mathlib.Core.Logic.{⊎_elim}
 use native.Mathlib.Omega.{arith}
 use lib.Dec.{eqb}
 use lib.ListN.{length, get_or}
@@ -8,10 +6,11 @@ use borrow.Author.Tests.{ltb-true}
 use Rattle.text.specs.Text.{hash}
 use Rattle.text.proofs.Laws.{length_decimal, both, filling_none, filling_number, filling_byte, filling_all}
 use Rattle.text.proofs.put_form.Goals as goal
+use Rattle.text.proofs.put_form.Goals.{then-form-i, else-form-i}
 
 pub loop-i-init : goal.loop-i-init
 loop-i-init c = let a = c.args in
-    (omega arith, omega arith, omega arith, filling_none a.out-1.now a.at a.form.now a.numbers.now)
+    (omega arith, omega arith, omega arith, filling_none a.out.now a.at a.form.now a.numbers.now)
 
 pub bounds-form-i : goal.bounds-form-i
 bounds-form-i c = omega arith
@@ -51,15 +50,24 @@ pub loop-i-smaller : goal.loop-i-smaller
 loop-i-smaller c = omega arith
 
 pub loop-i-preserved : goal.loop-i-preserved
-loop-i-preserved c = let a = c.args in
+loop-i-preserved c =
+    let a = c.args in
     let l = c.loop-i in
-    ⊎_elim
-    (λ w.
-    let left = ltb-true l.told (length a.numbers.now) (both (eqb (get_or a.form.now l.i 0) hash) _ w.0.taken).1 in
-    (omega arith, omega arith, omega (arith, length_decimal (get_or a.numbers.now l.told 0)), rw (w.6, w.7, w.8) (filling_number a.form.now a.numbers.now l.told l.i l.invariant.3 (omega arith) w.0.taken w.3.ensures)))
-    (λ w.
-    (omega arith, omega arith, omega arith, rw (w.2, w.3, w.4) (filling_byte a.form.now a.numbers.now l.told l.i l.invariant.3 (omega arith) w.0.left)))
-    c.if-form-i.branch
+    elim c.if-form-i.branch [
+      | then-form-i w ↦
+          let left = ltb-true l.told (length a.numbers.now) (both (eqb (get_or a.form.now l.i 0) hash) _ w.if-form-i.true).1 in (
+            omega arith,
+            omega arith,
+            omega (arith, length_decimal (get_or a.numbers.now l.told 0)),
+            rw (w.out-is, w.next-is, w.told-is) (filling_number a.form.now a.numbers.now l.told l.i l.invariant.3 (omega arith) w.if-form-i.true w.put_decimal-next.ensures),
+          )
+      | else-form-i w ↦ (
+        omega arith,
+        omega arith,
+        omega arith,
+        rw (w.out-is, w.next-is, w.told-is) (filling_byte a.form.now a.numbers.now l.told l.i l.invariant.3 (omega arith) w.if-form-i.false),
+      )
+    ]
 
 pub shape_of-out : goal.shape_of-out
 shape_of-out c = c.loop-i.invariant.3.puts.size
