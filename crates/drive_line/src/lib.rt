@@ -1,4 +1,7 @@
 // One command: what it does to a side, and its line.
+
+#![tactic(auto)]
+
 ghost use Rattle.std.specs.Prelude.{◌≡◌, ◌++◌, ◌+◌, ◌≤◌, length};
 ghost use Rattle.crc.specs.Register.{table};
 ghost use Rattle.text.specs.Text.{decimal, Puts};

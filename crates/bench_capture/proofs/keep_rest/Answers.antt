@@ -7,11 +7,8 @@ use native.Mathlib.Numerals.{add-one}
 use native.Mathlib.Omega.{arith}
 use lib.ListN.{length, take, drop, set, get_or, length-take, length-drop, length-set}
 use lib.Seq.{take-suc, drop-cons, append_snoc, get_or-append-add, get_or-drop, set_at}
+use Rattle.bench_capture.proofs.keep_rest.Invariants.{moved}
 use Rattle.bench_capture.proofs.keep_rest.Goals as goal
-
--- the first i bytes moved
-abbrev moved : List ℕ → ℕ → ℕ → List ℕ
-moved xs from i = take i (drop from xs) ++ drop i xs
 
 moved_read : (xs : List ℕ) (from i : ℕ) → from + i < length xs → get_or (moved xs from i) (from + i) 0 ≡ get_or (drop from xs) i 0
 moved_read xs from i h =

@@ -16,7 +16,8 @@ returns c = let a = c.args in
     let r = c.receive_with-received.ensures in
     let p = c.put_line-bytes.ensures in
     let t = c.after_receive-counts.ensures in
-    let e = r.0 in (
-      rw (t, e) refl,
-      (r.1, puts_as (ap (λ (x : Received). flit_line a.b.flits x.answer x.end-1) e) p),
-    )
+    let e = r.value in record {
+      kept_value = rw (t, e) refl;
+      hold_after = r.hold_after;
+      puts = puts_as (ap (λ (x : Received). flit_line a.b.flits x.answer x.end) e) p;
+    }

@@ -57,9 +57,9 @@ loop-n-preserved c = let a = c.args in
     let p = c.print_flit-printed in
     let t = c.loop-n-test.true in (
       omega (arith, t),
-      goes_on a.store.now (from_here a.b a.hold.now) a.input.now a.out.now _ l.n l.auto l.hold l.bytes _ l.out _ _ _ l.invariant.1
-          (flit_is a.input.now l.n (l.n * 64) (l.n * 64 + 64 - l.n * 64) refl (omega arith)) p.ensures.kept_value p.ensures.hold_after.0 p.ensures.hold_after.1,
-      p.auto.1.1.1.0 ∙ l.invariant.2,
+      goes_on a.store.now (from_here a.b a.hold.now) a.input.now a.out.now _ l.n l.kept l.hold l.bytes _ l.out _ _ _ l.invariant.1
+          (flit_is a.input.now l.n (l.n * 64) (l.n * 64 + 64 - l.n * 64) refl (omega arith)) p.ensures.kept_value p.ensures.hold_after p.ensures.puts,
+      p.auto.hold ∙ l.invariant.2,
     )
 
 pub shape_of-hold : goal.shape_of-hold
@@ -76,7 +76,8 @@ returns c = let a = c.args in
     let t = c.loop-n-test.false in
     let e : l.n ≡ length a.input.now / 64 = omega (arith, t, l.invariant.0) in
     let s = from_here a.b a.hold.now in
-    let at : ℕ → BenchSession = λ (m : ℕ). flits a.store.now s a.input.now m in (
-      l.invariant.1.keeps ∙ ap (λ (m : ℕ). (at m).kept) e,
-      (l.invariant.1.holds ∙ ap (λ (m : ℕ). (at m).hold) e, puts_as (ap (λ (m : ℕ). (at m).lines) e) l.invariant.1.prints),
-    )
+    let at : ℕ → BenchSession = λ (m : ℕ). flits a.store.now s a.input.now m in record {
+      kept_value = l.invariant.1.keeps ∙ ap (λ (m : ℕ). (at m).kept) e;
+      hold_after = l.invariant.1.holds ∙ ap (λ (m : ℕ). (at m).hold) e;
+      puts = puts_as (ap (λ (m : ℕ). (at m).lines) e) l.invariant.1.prints;
+    }

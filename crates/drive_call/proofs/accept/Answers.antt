@@ -12,7 +12,7 @@ pub clear-requires : goal.clear-requires
 clear-requires c = let a = c.args in
     let p = c.requires in
     let called = c.accept-accepted in
-    let l = called.auto.1.0 in
+    let l = called.auto.store in
     let n = length_front a.store.now called.new.store (a.side.store - 0) l in
     (omega (arith, n, p.0), omega (arith, n, p.1), left_clean a.store.now a.side.kept a.side.store p.0 p.1 p.2 called.new.store l)
 
@@ -28,6 +28,6 @@ returns c = let a = c.args in
     let left = stored_is a.side store lent l a.unit.now called.new.store called.ensures.store_after in record {
       value = accepted_is a.side store lent l a.unit.now called.result c.after_accept-counted.result c.after_call-after.result called.ensures.value
           c.after_accept-counted.ensures c.after_call-after.ensures;
-      store_after = left_part a.store.now a.side.kept a.side.store p.0 p.1 p.2 called.new.store called.auto.1.0 _ cleared.new.buffer left
+      store_after = left_part a.store.now a.side.kept a.side.store p.0 p.1 p.2 called.new.store called.auto.store _ cleared.new.buffer left
           cleared.ensures;
     }

@@ -13,7 +13,7 @@ pub clear-requires : goal.clear-requires
 clear-requires c = let a = c.args in
     let p = c.requires in
     let called = c.receive_with-received in
-    let l = called.auto.1.1.1.0 in
+    let l = called.auto.hold in
     let n = length_front a.hold.now called.new.hold (a.side.hold - 0) l in
     (omega (arith, n, p.4), omega (arith, n, p.5), left_clean a.hold.now 576 a.side.hold p.4 p.5 p.6 called.new.hold l)
 
@@ -32,6 +32,6 @@ returns c = let a = c.args in
     let left = held_is a.side store lent l hold held m a.flit.now called.new.hold called.ensures.hold_after in record {
       value = received_is a.side store lent l hold held m a.flit.now called.result c.after_receive-counted.result c.after_call-after.result
           called.ensures.value c.after_receive-counted.ensures c.after_call-after.ensures;
-      hold_after = left_part a.hold.now 576 a.side.hold p.4 p.5 p.6 called.new.hold called.auto.1.1.1.0 _ cleared.new.buffer left
+      hold_after = left_part a.hold.now 576 a.side.hold p.4 p.5 p.6 called.new.hold called.auto.hold _ cleared.new.buffer left
           cleared.ensures;
     }

@@ -18,7 +18,8 @@ returns c = let a = c.args in
     let p = c.requires in
     let of_store = c.clear in
     let of_hold = c.clear-2 in
-    let n = length-take-le (a.bytes - 0) of_store.new.buffer (omega (arith, p.1, of_store.auto.0)) ∙ sub-zero a.bytes in (
-      started_is a.bytes _ c.start-started.result c.fresh-side.result n c.start-started.ensures c.fresh-side.ensures,
-      (cleared_all of_store.ensures refl, cleared_all of_hold.ensures refl),
-    )
+    let n = length-take-le (a.bytes - 0) of_store.new.buffer (omega (arith, p.1, of_store.auto.buffer)) ∙ sub-zero a.bytes in record {
+      value = started_is a.bytes _ c.start-started.result c.fresh-side.result n c.start-started.ensures c.fresh-side.ensures;
+      store_after = cleared_all of_store.ensures refl;
+      hold_after = cleared_all of_hold.ensures refl;
+    }
