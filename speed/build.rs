@@ -1,8 +1,8 @@
-// Links the archives that `rt staticlib c_check` and `rt staticlib c_speed` write.
+// Links the archives that `rt lib` writes in crates/c_check and crates/c_speed.
 fn main() {
-    let archives = concat!(env!("CARGO_MANIFEST_DIR"), "/../target/staticlib");
-    println!("cargo:rustc-link-search=native={archives}");
     for name in ["c_check", "c_speed"] {
+        let archives = format!("{}/../crates/{name}/out", env!("CARGO_MANIFEST_DIR"));
+        println!("cargo:rustc-link-search=native={archives}");
         println!("cargo:rustc-link-lib=static={name}");
         println!("cargo:rerun-if-changed={archives}/lib{name}.a");
     }

@@ -2,7 +2,7 @@
 For tools/moved.
 
 An item is a list of words without comments and layout, and each word may refer to an item or to what a library has, as the `use` lines of
-its file say. So words can be compared by what they refer to: after `use Rattle·NAME.specs.Ring.{place as place-of}` the word place-of
+its file say. So words can be compared by what they refer to: after `use Rattle.NAME.specs.Ring.{place as place_of}` the word place_of
 refers to place of crates/NAME/specs/Ring.antt.
 """
 import collections, re
@@ -25,8 +25,8 @@ SIGNATURE = re.compile(r'(?:(?:unfoldable|abbrev|pub)\s+)*((?:%s\s+)+):\s' % NAM
 BLOCK = re.compile(r'(?:pub\s+)?(?:record|data)\s+(\S+)')
 NO_ITEM = re.compile(r'(?:pub\s+)?(?:use|mod)\s')
 USE = re.compile(r'^ *(?:ghost |pub )*use ([^;{\n]+?)(?:\.\{([^}]*)\})?;?\s*$', re.M)
-RUST_USE = re.compile(r'^(?:pub )?use (\w+(?:::\w+)+);', re.M)
-SPECS = re.compile(r'Rattle·(\w+)(?:·\w+)?\.specs\.(.+)')
+RUST_USE = re.compile(r'^(?:pub )?use (\w+(?:::\w+)*)(?:::\{([^}]*)\})?;', re.M)
+CONTRACT = ('ghost', 'requires', 'ensures', 'requires*', 'ensures*')
 KINDS = {'fn': 'promise', 'struct': 'type', 'enum': 'type', 'const': 'type'}
 
 
@@ -46,12 +46,12 @@ def words(path, text):
 
 def items(files):
     """The items of all files, by path and name."""
-    found = {}
+    found, ours = {}, own(files)
     for part, split in (('specs', definitions), ('code', declarations)):
         for path in crates.part(files, part):
             here = list(split(path, files[path]))
             meant = {word: Referred(path, name, '') for _, name, _ in here for word in written(name.split('::')[-1])}
-            meant.update(brought_in(path, files[path]))
+            meant.update(brought_in(path, files[path], ours))
             for kind, name, said in here:
                 found[path, name] = Item(kind, path, name, with_references(said, path, meant))
     return found
@@ -59,11 +59,16 @@ def items(files):
 
 def pages(files):
     """Each proof file as one item without a name. What its `use` lines bring in is known by the words that refer to it."""
-    found = {}
+    found, ours = {}, own(files)
     for path in crates.part(files, 'proofs'):
         said = words(path, USE.sub('', files[path]))
-        found[path, ''] = Item('page', path, '', with_references(said, path, brought_in(path, files[path])))
+        found[path, ''] = Item('page', path, '', with_references(said, path, brought_in(path, files[path], ours)))
     return found
+
+
+def own(files):
+    """The crates that are no library's."""
+    return {crates.crate_of(path) for path in files if path.startswith('crates/')}
 
 
 def definitions(path, text):
@@ -96,6 +101,8 @@ def declarations(path, text):
         elif word == 'impl':
             begin = at = said.index('{', at) + 1
             owner = said[at - 2] + '::'
+        elif word in ('#', '#!') and said[at + 2:at + 3] == ['tactic']:
+            del said[at:closed(said, at + 1)]       # how a proof is looked for is no promise
         elif word in ('(', '[', '{'):
             at = closed(said, at)
         else:
@@ -113,8 +120,10 @@ def extent(said, at):
         if said[at] == '{':
             after = closed(said, at)
             return (at, after) if function else (after, after)
-        contract = said[at] in ('ghost', 'requires', 'ensures')
-        at = closed(said, at + contract) if contract or said[at] in ('(', '[') else at + 1
+        if said[at] in CONTRACT:
+            at = closed(said, said.index('{', at))
+        else:
+            at = closed(said, at) if said[at] in ('(', '[') else at + 1
     return at, at + 1
 
 
@@ -128,40 +137,52 @@ def closed(said, at):
             return at
 
 
-def brought_in(path, text):
+def brought_in(path, text, ours):
     """What the `use` lines of a file bring in: the word, and what it refers to."""
     meant = {}
     for use in USE.finditer(text):
         module, _, alias = use.group(1).partition(' as ')
         if use.group(2) is None:
             if alias:
-                meant[alias] = of_module(module, '')
+                meant[alias] = of_module(module, '', ours)
             continue
-        for item in use.group(2).split(','):
-            name, _, alias = item.strip().partition(' as ')
-            meant.update((word, of_module(module, name)) for word in written(alias or name))
+        for name, alias in listed(use.group(2)):
+            meant.update((word, of_module(module, name, ours)) for word in written(alias))
     for use in RUST_USE.finditer(text):
         steps = use.group(1).split('::')
-        meant[steps[-1]] = of_steps(path, steps)
+        if use.group(2) is None:
+            meant[steps[-1]] = of_steps(path, steps)
+            continue
+        for name, alias in listed(use.group(2)):
+            meant[alias] = of_steps(path, [*steps, name])
     return meant
 
 
+def listed(items):
+    """The names of a `use` line's list, each with the word that it is brought in as."""
+    for item in filter(None, map(str.strip, items.split(','))):
+        name, _, alias = item.partition(' as ')
+        yield name, alias or name
+
+
 def written(name):
-    """The words that a name is written as: `_≡_` also as `≡`."""
-    return [name] + ([part for part in name.split('_') if part] if name.startswith('_') or name.endswith('_') else [])
+    """The words that a name is written as: `◌≡◌` also as `≡`."""
+    return [name] + ([part for part in name.split('◌') if part] if '◌' in name else [])
 
 
-def of_module(module, name):
+def of_module(module, name, ours):
     """What a name of a module of specs/ or of a library refers to; of proofs/ nothing is told. The types of src/ stand under `declared`,
     each with its variants."""
-    specs = SPECS.fullmatch(module)
-    if not specs:
-        return None if module.startswith('Rattle·') else Referred(module, name, '')
-    crate, steps = specs.group(1), specs.group(2).split('.')
+    steps = module.split('.')
+    if steps[0] != 'Rattle' or steps[1] not in ours:
+        return Referred(module, name, '')
+    crate, steps = steps[1], steps[3:] if steps[2:3] == ['specs'] else []
+    if not steps:
+        return None
     if steps[0] != 'declared':
         return Referred('crates/%s/specs/%s.antt' % (crate, '/'.join(steps)), name, '')
     variant = ''
-    if steps[-1] == 'the-variants':
+    if steps[-1] == 'TheVariants':
         variant = name
         steps.pop()
     return Referred('crates/%s/src/%s.rt' % (crate, '/'.join(steps[1:-1]) or 'lib'), steps[-1], variant)

@@ -136,8 +136,9 @@ fn median(mut times: Vec<f64>) -> f64 {
 }
 
 pub fn print() {
-    let target = Path::new(concat!(env!("CARGO_MANIFEST_DIR"), "/../target"));
-    let work = target.join("speed");
+    let top = Path::new(concat!(env!("CARGO_MANIFEST_DIR"), "/.."));
+    let bench = top.join("crates/bench/out/bench");
+    let work = top.join("target/speed");
     fs::create_dir_all(&work).unwrap();
     let [flits, plain, proved] = ["flits", "plain", "proved"].map(|name| work.join(name));
     fs::write(&flits, capture()).unwrap();
@@ -147,11 +148,7 @@ pub fn print() {
     let mut proved_times = Vec::new();
     for _ in 0..RUNS {
         plain_times.push(seconds(Command::new(&own).arg("lines"), &flits, &plain));
-        proved_times.push(seconds(
-            &mut Command::new(target.join("bin/bench")),
-            &flits,
-            &proved,
-        ));
+        proved_times.push(seconds(&mut Command::new(&bench), &flits, &proved));
         assert!(
             fs::read(&plain).unwrap() == fs::read(&proved).unwrap(),
             "what is printed differs"

@@ -1,5 +1,8 @@
-// The check for programs in Rust or C, which link the archive that `rt staticlib exports` writes. A slice goes over as a pointer and a
+// The check for programs in Rust or C, which link the archive that `rt lib` writes, out/libc_check.a. A slice goes over as a pointer and a
 // length. Nothing asks a foreign caller what a function requires: one that takes a table is to be handed what `crc_lay` wrote.
+
+#![tactic(auto)]
+
 ghost use Rattle.std.specs.Prelude.{◌≡◌, ◌++◌};
 ghost use Rattle.crc.specs.Unit.{right, flit_right};
 ghost use Rattle.crc.specs.Register.{table};

@@ -2,6 +2,9 @@
 // makes many calls from it, each from the same state but for its sequence numbers, which are moved by the turn. The result is a digest:
 // of each call the answer and some numbers of the state, and of the last call the whole state. A function that takes a table is to be
 // handed what `crc_lay` wrote.
+
+#![tactic(auto)]
+
 ghost use Rattle.std.specs.Prelude.{◌≡◌};
 ghost use Rattle.crc.specs.Register.{table};
 

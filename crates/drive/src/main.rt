@@ -1,11 +1,15 @@
 // Drives two ends of a link from text: a command a line on standard input, and a line for each on standard output. Here bytes are
 // only moved: what is printed is said by the library.
+
+#![tactic(auto)]
+
 ghost use Rattle.std.specs.Prelude.{◌≡◌, ◌+◌, ◌≤◌, ◌<◌, length};
 ghost use Rattle.crc.specs.Register.{table};
 ghost use Rattle.drive_pair.specs.Pair.{Ready};
 
 use drive_pair::Pair;
-use libc::{STDERR_FILENO, STDIN_FILENO};
+use std::env::{Env, FillError};
+use std::io::Read;
 
 // How far the input is used: what stands in its buffer from one place up to another is not. The turns left, and whether one more is to
 // come.
@@ -25,24 +29,31 @@ struct Driven {
     failed: bool,
 }
 
-fn main() {
-    if 1 < os::arg_count() {
-        io::write_all(STDERR_FILENO, b"usage: drive < script\n");
+fn main(rt: HostRuntime) {
+    if has_argument(&rt) {
+        let _ = eprint!(rt; "usage: drive < script\n");
         return;
     }
-    drive();
+    drive(&rt, &mut rt.stdin());
+}
+
+fn has_argument<R: Env>(rt: &R) -> bool {
+    let mut word = [0u8; 1];
+    !matches!(rt.arg(1, &mut word), Err(FillError::NotPresent))
 }
 
 // Lays the check's table down, once, and the buffers.
-fn drive() {
+fn drive<R: Print + Eprint, S: Read>(rt: &R, stdin: &mut S) {
     let t = crc::laid();
     let mut stores = [0u8; 140000];
     let mut holds = [0u8; 4000];
     let mut line = [0u8; 4097];
-    let mut input = io::large_buffer();
+    let mut input = [0u8; 65536];
     let mut out = [0u8; 131072];
     let begun = drive_session::begin(&mut stores, &mut holds, &mut line);
     let driven = drive_all(
+        rt,
+        stdin,
         &t,
         begun,
         &mut stores,
@@ -53,12 +64,14 @@ fn drive() {
     );
     let kept = driven.kept;
     let last = drive_session::finish(&t, kept, &mut stores, &mut holds, &mut line, &mut out);
-    write_last(&out, last.at, driven.failed);
+    write_last(rt, &out, last.at, driven.failed);
 }
 
 // A proved loop has to end, and nothing says that the input does. So the loop counts its turns down, from a number that no run
 // uses up. In each turn, as many lines are printed as have room.
-fn drive_all(
+fn drive_all<R: Print + Eprint, S: Read>(
+    rt: &R,
+    stdin: &mut S,
     t: &[u64; 256],
     d: Pair,
     stores: &mut [u8],
@@ -73,11 +86,11 @@ fn drive_all(
     let mut kept = d;
     let mut turn = first_turn();
     while turn.more & (0 < turn.turns) {
-        let now = read_more(turn, input);
+        let now = read_more(rt, stdin, turn, input);
         let from = now.from;
         let to = now.to;
         let fed = drive_session::feed(t, kept, stores, holds, line, &input[from..to], out);
-        let written = text_out::write(out, fed.bytes);
+        let written = text_out::write(rt, out, fed.bytes);
         kept = fed.pair;
         turn = next_turn(now, fed.used, written);
     }
@@ -100,24 +113,26 @@ fn first_turn() -> Turn
 }
 
 // Reads once, if what was read is used up.
-fn read_more(turn: Turn, input: &mut [u8]) -> Turn
+fn read_more<R: Eprint, S: Read>(rt: &R, stdin: &mut S, turn: Turn, input: &mut [u8]) -> Turn
     requires { (turn.from ≤ turn.to) × (turn.to ≤ length input.old) }
     ensures { (result.from ≤ result.to) × (result.to ≤ length input.old) × (result.turns ≡ turn.turns) }
 {
     if turn.from < turn.to {
         return turn;
     }
-    let got = libc::read(STDIN_FILENO, input);
-    if got < 0 {
-        os::fail(b"standard input");
-    }
-    let bytes = io::count(got, input);
+    let (bytes, failed) = match stdin.read(input) {
+        Ok(bytes) => (bytes, false),
+        Err(error) => {
+            text_out::fail(rt, "standard input", error);
+            (0, true)
+        }
+    };
     Turn {
         from: 0,
         to: bytes,
         turns: turn.turns,
         more: turn.more,
-        failed: got < 0,
+        failed: failed,
     }
 }
 
@@ -136,10 +151,10 @@ fn next_turn(turn: Turn, used: usize, written: bool) -> Turn
 }
 
 // The last line, unless a read or a write failed.
-fn write_last(out: &[u8], bytes: usize, failed: bool)
+fn write_last<R: Print + Eprint>(rt: &R, out: &[u8], bytes: usize, failed: bool)
     requires { bytes ≤ length out.now }
 {
     if !failed {
-        text_out::write(out, bytes);
+        text_out::write(rt, out, bytes);
     }
 }
