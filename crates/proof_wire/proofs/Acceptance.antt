@@ -28,7 +28,6 @@ use Rattle.receive_answer.specs.declared.Answer.{Answer}
 use Rattle.receive_answer.specs.declared.Answer.TheVariants as answer
 use Rattle.receive.specs.Receive as receive
 use Rattle.proof_model.proofs.Stream.{Stream, first, Flit, part, control, idle, replay}
-use Rattle.proof_model.proofs.End.{run}
 use Rattle.proof_model.proofs.Chain.{final, Grows, grows}
 use Rattle.proof_model.proofs.Inv.{At}
 use Rattle.proof_wire.specs.System.{System, Lent, begin, on_the_way, oldest_flit, turned, Event, Fair}
@@ -40,7 +39,7 @@ use Rattle.proof_wire.proofs.Says.{Flight, flit, Reads, units, units_append}
 use Rattle.proof_wire.proofs.Arrive.{IsControl, Hands}
 use Rattle.proof_wire.proofs.Offer.{block_of}
 use Rattle.proof_wire.proofs.Makes.{flights}
-use Rattle.proof_wire.proofs.Along.{at, handed_is, handeds, sents, sents_append, map_append, units_along, arrived_sents}
+use Rattle.proof_wire.proofs.Along.{handed_is, handeds, sents, sents_append, map_append, units_along, arrived_sents}
 use Rattle.proof_wire.proofs.Joint.{Joint, flip, Fine, fine, out_short, out_long, answer_is, next, did}
 use Rattle.proof_wire.proofs.Runs.{runs, begin_joint}
 

@@ -27,7 +27,7 @@ use Rattle.receive_free.specs.Acknowledge.{sent_anew, acknowledged}
 use Rattle.receive_take.specs.Taken.{informed, replay_taken}
 use Rattle.receive_state.specs.Effects.{waiting, discarded, ahead_in, end_after}
 use Rattle.receive.specs.Receive.{hold_after}
-use Rattle.proof_model.proofs.Stream.{Stream, owed, num, replay}
+use Rattle.proof_model.proofs.Stream.{Stream, num, replay}
 use Rattle.proof_model.proofs.End.{Mode, run, wait, down, End}
 use Rattle.proof_model.proofs.Step
 use Rattle.proof_model.proofs.Step.{item, again, more, enough, replayed, ahead_run, ahead_wait, discards}

@@ -19,15 +19,13 @@ use Rattle.flit_read.specs.declared.Fields.{Fields}
 use Rattle.flit_read.proofs.Laws.{length_bytes}
 use Rattle.end_state.specs.Ring.{put_at}
 use Rattle.end_state.specs.declared.End.{End as KeptEnd}
-use Rattle.end_state.specs.declared.Mode.TheVariants.{Down}
 use Rattle.end_state.proofs.Tests.{cond_true, cond_false}
 use Rattle.receive_test.specs.Arrivals.{holds, damaged, straddles, skips, behind, past_sent}
 use Rattle.receive_answer.specs.Answers.{plain_answer, run_answer}
 use Rattle.receive_answer.specs.declared.Answer.{Answer}
 use Rattle.receive_answer.specs.declared.Answer.TheVariants as answer
 use Rattle.receive_free.specs.Acknowledge.{sent_anew, acknowledged}
-use Rattle.receive.specs.Receive
-use Rattle.receive_take.specs.Taken.{idled, closed, delivered}
+use Rattle.receive_take.specs.Taken.{closed, delivered}
 use Rattle.receive_state.specs.Effects.{waiting, discarded, end_after}
 use Rattle.receive.specs.Receive.{hold_after}
 use Rattle.proof_model.proofs.Stream.{Stream, owed, num, some, Flit, Item, part, control, idle, replay}

@@ -199,6 +199,7 @@ module _ (Ok : Bool → Type 0) (f g : Stream) (store hold : List ℕ) (handed :
     by_replays : e.s.pending ≡ true → (vs : List (List ℕ)) → ArriveAll Arrives (replay_here ∷ replay_here ∷ []) vs
         → Oks Ok (passing (replay_here ∷ replay_here ∷ []) vs)
         → Goal (passing (replay_here ∷ replay_here ∷ []) vs) (with_untold 0 (with_pending false q))
+    by_replays p [] a o = elim a [ ]
     by_replays p (v ∷ []) a o = absurd a.1
     by_replays p (v ∷ w ∷ []) a o =
         record {
@@ -226,6 +227,7 @@ module _ (Ok : Bool → Type 0) (f g : Stream) (store hold : List ℕ) (handed :
 
     by_idles : e.s.pending ≡ false → (vs : List (List ℕ)) (a : ℕ) → a ≡ sending.carried e.r.untold → ArriveAll Arrives (idle_here a (some n) ∷ []) vs
         → Oks Ok (passing (idle_here a (some n) ∷ []) vs) → Goal (passing (idle_here a (some n) ∷ []) vs) (with_untold (q.untold.0 - a) q)
+    by_idles p [] a e31 ar o = elim ar [ ]
     by_idles p (v ∷ []) a e31 ar o =
         let le = carried_31 e.r.untold in
         let r = idle_read a (some n) n (omega arith) (omega (arith, n≤)) in
@@ -365,6 +367,7 @@ module _ (Ok : Bool → Type 0) (f g : Stream) (store hold : List ℕ) (handed :
 
       by_alone : n ≡ 0 → (vs : List (List ℕ)) (a : ℕ) → a ≡ sending.carried e.r.untold → ArriveAll Arrives (unit_here a ∷ []) vs
           → Oks Ok (passing (unit_here a ∷ []) vs) → Goal (passing (unit_here a ∷ []) vs) (with_untold (q.untold.0 - a) (past_unit q n))
+      by_alone o [] a e31 ar ok = elim ar [ ]
       by_alone o (v ∷ []) a e31 ar ok =
           let le = carried_31 e.r.untold in
           let un = carried_le e.r.untold in
@@ -391,6 +394,7 @@ module _ (Ok : Bool → Type 0) (f g : Stream) (store hold : List ℕ) (handed :
       by_burst : 0 < n → (vs : List (List ℕ)) (a b : ℕ) → a ≡ sending.carried e.r.untold → b ≡ sending.carried (e.r.untold - a)
           → ArriveAll Arrives (idle_here a false ∷ unit_here b ∷ []) vs → Oks Ok (passing (idle_here a false ∷ unit_here b ∷ []) vs)
           → Goal (passing (idle_here a false ∷ unit_here b ∷ []) vs) (with_untold (q.untold.0 - a - b) (past_unit q n))
+      by_burst o [] a b ea eb ar ok = elim ar [ ]
       by_burst o (x ∷ []) a b ea eb ar ok = absurd ar.1
       by_burst o (x ∷ v ∷ []) a b ea eb ar ok =
           let le = carried_31 e.r.untold in

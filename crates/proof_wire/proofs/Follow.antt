@@ -16,7 +16,7 @@ use Rattle.end_state.proofs.Tests.{and_true, and_false_l, cond_true, cond_false}
 use Rattle.receive_test.specs.Arrivals.{holds, closes, checked, damaged, skips}
 use Rattle.receive_answer.specs.Answers.{replay_answer, run_answer, wait_answer, mode_answer}
 use Rattle.receive_answer.specs.declared.Answer.{Answer}
-use Rattle.proof_model.proofs.Stream.{Stream, owed, Flit, Item, part, control, idle, replay}
+use Rattle.proof_model.proofs.Stream.{Stream, Flit, Item, part, control, idle, replay}
 use Rattle.proof_model.proofs.End.{Mode, run, wait, down, End}
 use Rattle.proof_model.proofs.Step.{item}
 use Rattle.proof_model.proofs.Chain.{Chain, Rest}

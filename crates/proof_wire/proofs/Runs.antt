@@ -25,7 +25,7 @@ use Rattle.proof_wire.specs.Theorem.{Unaltered}
 use Rattle.proof_wire.proofs.Wrap.{most}
 use Rattle.proof_wire.proofs.Offer.{block_of}
 use Rattle.proof_wire.proofs.Emits.{Oks}
-use Rattle.proof_wire.proofs.Joint.{kind, Agrees, Linked, Joint, flip, by_accepts, by_sends, by_receives}
+use Rattle.proof_wire.proofs.Joint.{Kind, Agrees, Linked, Joint, flip, by_accepts, by_sends, by_receives}
 
 -- what is known from the start of what will be
 pub record Foreseen (x y : Bool) (f g : Stream) (s : System) : Type 0 where
@@ -50,7 +50,7 @@ agrees_before f units u h i lt =
     h i (rw (length-append units (u ∷ [])) (omega arith)) ∙ ap block_of (get_or-append units (u ∷ []) [] i lt)
 
 -- what is right was known to be right where nothing was altered
-oks : (x : Bool) (ps : List Passage) → (x ≡ true → Unaltered ps) → Oks (kind x) ps
+oks : (x : Bool) (ps : List Passage) → (x ≡ true → Unaltered ps) → Oks (Kind x) ps
 oks x [] h = tt
 oks true (p ∷ ps) h = ((λ r. ap right (h refl).0 ∙ r), oks true ps (λ t. (h t).1))
 oks false (p ∷ ps) h = ((λ r. tt), oks false ps (λ t. absurd (false≢true t)))

@@ -13,7 +13,7 @@ use Rattle.end_state.specs.Ring.{flit_at}
 use Rattle.end_state.specs.declared.End.{End}
 use Rattle.end_state.specs.declared.Mode.{Mode as KeptMode}
 use Rattle.end_state.specs.declared.Mode.TheVariants.{Run, Wait, Down}
-use Rattle.proof_model.proofs.Stream.{Block, Stream, owed, num, Flit, Item, part, control, idle, replay}
+use Rattle.proof_model.proofs.Stream.{Block, Stream, num, Flit, Item, part, control, idle, replay}
 use Rattle.proof_model.proofs.End.{Mode, run, wait, down, Receiver}
 use Rattle.proof_model.proofs.Chain.{Chain, after, final}
 use Rattle.proof_wire.specs.Damage.{reads_replay}

@@ -34,7 +34,6 @@ returns c = let r = c.args.r in
     let t1 = bytes_written n1.result z 44 8 r.information n1.ensures (omega arith) in
     let t2 = bytes_written n2.result n1.result 52 2 r.last.0 n2.ensures (omega arith) in
     let t3 = bytes_written n3.result n2.result 54 2 r.start.0 n3.ensures (omega arith) in
-    let fits = c.struct_known-1.given in
     let x = 10 + 16 * r.previous.0 + 256 * r.errors + d.result + n.result in
     let e : x ≡ replay_told r = ap₂ (λ (y w : ℕ). 10 + 16 * r.previous.0 + 256 * r.errors + y + w) d.ensures n.ensures in
     c.seal_with.ensures

@@ -13,7 +13,7 @@ use Rattle.flit_read.proofs.read.fields.Goals as goal
 pub returns : goal.returns
 unfolding fields_of
 returns c = let s = c.args.flit.now in
-    let bs : AllBytes s = λ i. omega (arith, c.shared_slice_known-1.given i) in
+    let bs : AllBytes s = λ i. omega (arith, c.type_inv.flit i) in
     let e = c.content-c.ensures in
     let i = c.information-information.ensures in
     let acks = ap (read ack_count) e in
