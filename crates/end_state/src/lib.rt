@@ -7,7 +7,7 @@ pub mod ring;
 pub mod walk;
 
 ghost use Rattle.std.specs.Prelude.{◌≡◌, length};
-ghost use Rattle.end_state.specs.State.{store_fits, fresh as fresh_of, start as start_of_lem, is_wait as is_wait_of, refusal_number as refusal_number_of, verdict_number as verdict_number_of};
+ghost use Rattle.end_state.specs.State.{store_fits, fresh as fresh_of, start as start_of, is_wait as is_wait_of, refusal_number as refusal_number_of, verdict_number as verdict_number_of};
 ghost use Rattle.end_state.specs.Refusals.{is_down as is_down_of};
 
 use flit_number::{FlitCount, NextWanted, SequenceNumber};
@@ -122,7 +122,7 @@ impl End {
 
     // A fresh end over a lent store.
     pub fn start(store: &[u8]) -> Started
-        ensures { result ≡ start_of_lem (length store.now) }
+        ensures { result ≡ start_of (length store.now) }
     {
         let bytes = store.len();
         if is_store(bytes) {

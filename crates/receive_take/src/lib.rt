@@ -5,7 +5,7 @@
 ghost use Rattle.std.specs.Prelude.{◌≡◌, ◌∷◌, ◌≤◌, take};
 ghost use Rattle.receive_test.specs.Arrivals.{newly_covered};
 ghost use Rattle.receive_free.specs.Acknowledge.{Covered};
-ghost use Rattle.receive_take.specs.Taken.{idled as idled_of, closed as Closed_of, delivered as delivered_of, informed as informed_of, replay_taken as replay_taken_of};
+ghost use Rattle.receive_take.specs.Taken.{idled as idled_of, closed as closed_of, delivered as delivered_of, informed as informed_of, replay_taken as replay_taken_of};
 
 use end_state::End;
 use flit_number::FlitCount;
@@ -24,7 +24,7 @@ pub fn idled(e: End, store: &[u8], f: Fields) -> End
 // A control flit closes its unit.
 pub fn closed(e: End, store: &[u8], f: Fields) -> End
     requires { Covered e store.now f.acks.0 × (e.gathered.0 ≤ 8) }
-    ensures { result ≡ Closed_of e store.now f }
+    ensures { result ≡ closed_of e store.now f }
 {
     let position = flit_number::number_after(e.position, FlitCount(e.gathered.0 + 1));
     let none = FlitCount(0);

@@ -4,7 +4,7 @@
 #![tactic(auto)]
 
 ghost use Rattle.std.specs.Prelude.{◌≡◌, cond, ◌≤◌, ltb};
-ghost use Rattle.send_state.specs.Moves.{carried as Carried_of, fallen as fallen_of, past_unit as past_unit_of, moved as moved_of};
+ghost use Rattle.send_state.specs.Moves.{carried as carried_of, fallen as fallen_of, past_unit as past_unit_of, moved as moved_of};
 
 use end_state::End;
 use flit_number::FlitCount;
@@ -52,7 +52,7 @@ fn past_unit(e: End, run: FlitCount) -> End
 
 // The smaller of 31 and untold.
 pub fn carried(untold: FlitCount) -> FlitCount
-    ensures result_value { result.0 ≡ Carried_of untold.0 }
+    ensures result_value { result.0 ≡ carried_of untold.0 }
     ensures result_bound { result.0 ≤ 31 }
 {
     if untold.0 <= 31 {

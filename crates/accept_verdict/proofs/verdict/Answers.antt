@@ -1,5 +1,5 @@
 -- `accept_verdict::verdict` meets its contract: at each `return` the tests that led there say which case of `accept_verdict` holds.
-use Rattle.std.proofs.Common.{arith, rules, Bool, true, false, not, cond, List, ◌≡◌, sym, ap, ◌∙◌, ℕ, ◌+◌, ◌-◌, eqb, ltb, length, take, drop, length-drop}
+use Rattle.std.proofs.Common.{arith, true, false, not, cond, List, ◌≡◌, sym, ap, ◌∙◌, ℕ, ◌+◌, ◌-◌, eqb, ltb, length, take, drop, length-drop}
 use borrow.Author.Tests.{not-true, not-false, eq-eqb, ne_eqb, lt-ltb, le-ltb}
 use lib.Seq.{take_all}
 use Rattle.flit_read.specs.Fields.{acceptable}

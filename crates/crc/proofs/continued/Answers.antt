@@ -1,6 +1,6 @@
 -- `crc::continued` meets its contract: what the register makes of the bytes to come is what it made of all of them at first.
 use mathlib.Core.Path.{◌≡◌, ◌∙◌, ap, ap₂, sym}
-use Prim.Native.Nat.{ℕ, ◌-◌}
+use Prim.Native.Nat.{ℕ}
 use lib.ListN.{length, drop}
 use lib.Seq.{drop-cons, drop-length}
 use native.Mathlib.Numerals.{add-one}

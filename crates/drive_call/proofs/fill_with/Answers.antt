@@ -1,7 +1,7 @@
 -- `drive_call::fill_with` meets its contract: the first i bytes are made the same, and those after them are as they were.
 use mathlib.Core.List.{List}
 use mathlib.Core.Path.{refl, ap, ◌∙◌}
-use Prim.Native.Nat.{ℕ, ◌-◌}
+use Prim.Native.Nat.{ℕ}
 use native.Mathlib.Omega.{arith}
 use lib.ListN.{set, length-set}
 use Rattle.drive_call.proofs.Lent.{repeated_none, filled_next, filled_all}

@@ -1,6 +1,5 @@
 -- `drive_head::untouched` meets its contract: the bytes passed are 165.
 use mathlib.Core.Path.{refl, sym, ◌∙◌}
-use Prim.Native.Nat.{◌-◌}
 use native.Mathlib.Omega.{arith}
 use Rattle.drive_head.proofs.Laws.{untouched_not, untouched_next, untouched_end}
 use Rattle.drive_head.proofs.untouched.Goals as goal

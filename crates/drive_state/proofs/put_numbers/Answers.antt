@@ -1,7 +1,6 @@
 -- `drive_state::put_numbers` meets its contract: the fields as one form.
 use Rattle.text.proofs.Laws.{puts_as}
 use Rattle.drive_state.proofs.Laws.{numbers_are}
-use native.Mathlib.Omega.{arith}
 use Rattle.drive_state.proofs.put_numbers.Goals as goal
 
 pub returns : goal.returns

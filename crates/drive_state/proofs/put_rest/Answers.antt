@@ -1,7 +1,6 @@
 -- `drive_state::put_rest` meets its contract: the fields as one form.
 use Rattle.text.proofs.Laws.{puts_as}
 use Rattle.drive_state.proofs.Laws.{rest_is}
-use native.Mathlib.Omega.{arith}
 use Rattle.drive_state.proofs.put_rest.Goals as goal
 
 pub returns : goal.returns

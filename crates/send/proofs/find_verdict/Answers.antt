@@ -1,5 +1,4 @@
 -- `send::find_verdict` meets its contract: at each `return` the tests that led there say which case of `verdict` holds.
-use mathlib.Core.Bool.{true}
 use mathlib.Core.Path.{sym, ◌∙◌}
 use borrow.Author.Tests.{not-true, not-false}
 use Rattle.end_state.proofs.Tests.{cond_true}

@@ -9,14 +9,14 @@ use lib.ListN.{length, drop, get_or, drop_of_length-le}
 use lib.Seq.{drop-cons}
 use borrow.Author.Tests.{not-true, not-false, leb-true}
 use Rattle.end_state.proofs.Tests.{and_l, and_r, cond_true, cond_false}
-use Rattle.drive_token.specs.Tokens.{is_digit, all_digits, value_from, is_number, value as value_of_lem}
+use Rattle.drive_token.specs.Tokens.{is_digit, all_digits, value_from, is_number, value as value_of}
 use Rattle.drive_token.proofs.Figures.{no_number, stops, digits_next, value_next, value_start, whole_number, value_end}
 use Rattle.drive_token.proofs.digits.number.Goals as goal
 
 pub returns-then-token-eq0 : goal.returns-then-token-eq0
 returns-then-token-eq0 c = let a = c.args in
     let e = no_number a.max a.token.now c.if-token-eq0.true in
-    record { ok_value = sym e; value_value = sym (cond_false (is_number a.max a.token.now) (value_of_lem a.token.now) 0 e); value_le_max = omega arith }
+    record { ok_value = sym e; value_value = sym (cond_false (is_number a.max a.token.now) (value_of a.token.now) 0 e); value_le_max = omega arith }
 
 pub loop-i-init : goal.loop-i-init
 loop-i-init c = (omega arith, omega arith, refl, value_start _)
@@ -35,7 +35,7 @@ returns-then-not-next c = let a = c.args in
     (l.invariant.3 ∙ ap (value_from l.value) d)
     (sym c.with_digit-next.ensures.ok_value ∙ not-true c.with_digit-next.result.ok c.if-not-next.true)
     in
-    record { ok_value = sym e; value_value = sym (cond_false (is_number a.max t) (value_of_lem t) 0 e); value_le_max = omega arith }
+    record { ok_value = sym e; value_value = sym (cond_false (is_number a.max t) (value_of t) 0 e); value_le_max = omega arith }
 
 pub overflow_add-i : goal.overflow_add-i
 overflow_add-i c = omega arith
@@ -73,4 +73,4 @@ returns c = let a = c.args in
     let e : is_number a.max t ≡ true =
     whole_number a.max l.value t some l.invariant.1 (l.invariant.2 ∙ ap all_digits d) v
     in
-    record { ok_value = sym e; value_value = sym (cond_true (is_number a.max t) (value_of_lem t) 0 e ∙ v ∙ value_end l.value); value_le_max = l.invariant.1 }
+    record { ok_value = sym e; value_value = sym (cond_true (is_number a.max t) (value_of t) 0 e ∙ v ∙ value_end l.value); value_le_max = l.invariant.1 }

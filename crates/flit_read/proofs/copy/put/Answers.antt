@@ -4,7 +4,7 @@ use lib.ListN.{length, get_or, length-set}
 use native.Mathlib.Numerals.{add-one}
 use native.Mathlib.Omega.{arith}
 use mathlib.Core.Path.{refl, sym, ◌∙◌}
-use Prim.Native.Nat.{◌-◌, ◌<◌}
+use Prim.Native.Nat.{◌<◌}
 use Rattle.flit_read.proofs.copy.put.Goals as goal
 
 pub loop-i-init : goal.loop-i-init
