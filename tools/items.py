@@ -116,7 +116,7 @@ def declarations(path, text):
 def extent(said, at):
     """Where an item that begins here ends, and where what follows it begins: a function's body is not the item's."""
     function = said[at] == 'fn'
-    while said[at] != ';':
+    while at < len(said) and said[at] not in (';', '}'):
         if said[at] == '{':
             after = closed(said, at)
             return (at, after) if function else (after, after)

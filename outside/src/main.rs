@@ -20,7 +20,7 @@ extern "C" {
     ) -> bool;
 }
 
-/// The crate's functions, with the table that `crc_lay` wrote, which is what they require.
+/// The crate's functions, with the table that `crc_lay` wrote for those that take one.
 struct Proved {
     table: [u64; 256],
 }

@@ -13,11 +13,12 @@ use Rattle.flit_read.specs.Fields.{content, run_length, acceptable}
 use Rattle.end_state.specs.Update.{with_held}
 use Rattle.end_state.specs.Ring.{walk_begun, stored, walked}
 use Rattle.end_state.specs.Refusals.{cursor_at, sent_at, acknowledged_at, store_is, counts_sound, numbers_sound, units_sound, sound}
+use Rattle.std.specs.Prelude.{Result, Ok, Err}
 use Rattle.end_state.specs.declared.End.{End}
-use Rattle.end_state.specs.declared.Verdict.{Verdict}
-use Rattle.end_state.specs.declared.Verdict.TheVariants.{Refused, Admitted}
+use Rattle.end_state.specs.declared.Refusal.{Refusal}
 use Rattle.end_state.specs.declared.walk.Walk.{Walk}
-use Rattle.end_state.proofs.Tests.{and_l, and_r, and_true, cond_true, cond_either}
+use Rattle.std.proofs.lemmas.Bool.{and_from, cond-true, cond_both}
+use Rattle.end_state.proofs.Tests.{and_l, and_r}
 use Rattle.end_state.proofs.Facts.{numbered}
 use Rattle.end_state.proofs.Places.{walk_same}
 use Rattle.end_state.proofs.Walks.{next_border}
@@ -41,9 +42,9 @@ more_numbers : (e : End) (n : ℕ) → numbers_sound e ≡ true → e.held.0 ≤
 unfolding numbers_sound
 more_numbers e n h k z =
     let f = numbered e h in
-    let p = cond_either (λ (x : ℕ). x ≤ e.kept.0) (ltb 0 e.held.0) e.kept.0 0 (λ t. omega arith) (λ t. omega arith) in
+    let p = cond_both (ltb 0 e.held.0) e.kept.0 0 (λ (x : ℕ). x ≤ e.kept.0) (λ t. omega arith) (λ t. omega arith) in
     let q : acknowledged_at e ≤ e.kept.0 = omega (arith, p, f.acknowledged) in
-    let r : cond (ltb 0 n) e.kept.0 0 ≡ e.kept.0 = cond_true (ltb 0 n) e.kept.0 0 (lt-ltb 0 n z) in
+    let r : cond (ltb 0 n) e.kept.0 0 ≡ e.kept.0 = cond-true (ltb 0 n) e.kept.0 0 (lt-ltb 0 n z) in
     cc (
       le-leb (cursor_at e) e.held.0 f.cursor,
       le-leb (cursor_at e) n (omega (arith, f.cursor)),
@@ -58,7 +59,7 @@ abbrev pub on_border : List ℕ → Walk
 on_border control =
     record { left = read run_length (content control); run = read run_length (content control); border = true; sound = true }
 
-module _ (e : End) (store unit : List ℕ) (admitted : accept_verdict e store unit ≡ Admitted) where
+module _ (e : End) (store unit : List ℕ) (admitted : accept_verdict e store unit ≡ Ok tt) where
   facts : Admission e store unit
   facts = admission e store unit admitted
 
@@ -124,8 +125,8 @@ module _ (e : End) (store unit : List ℕ) (admitted : accept_verdict e store un
       let x = more_counts e n (and_l (counts_sound e) (numbers_sound e) both) f.state.counts.held f.room in
       let y = more_numbers e n (and_r (counts_sound e) (numbers_sound e) both) (omega arith) (omega (arith, f.shape)) in
       ap (λ (a : End). sound a after) (admitted_end e store unit admitted)
-      ∙ and_true (counts_sound (with_held n e) && numbers_sound (with_held n e)) (units_sound (with_held n e) after)
-      (and_true (counts_sound (with_held n e)) (numbers_sound (with_held n e)) x y) more_units
+      ∙ and_from (counts_sound (with_held n e) && numbers_sound (with_held n e)) (units_sound (with_held n e) after)
+      (and_from (counts_sound (with_held n e)) (numbers_sound (with_held n e)) x y) more_units
 
 -- a sound state stays sound, whatever accept answers
 pub stays_sound : (e : End) (store unit : List ℕ) → store_is e (length store) ≡ true → sound e store ≡ true
@@ -133,8 +134,8 @@ pub stays_sound : (e : End) (store unit : List ℕ) → store_is e (length store
     × (sound (accept e store unit).end (accept_store e store unit) ≡ true)
 stays_sound e store unit h k = go (accept_verdict e store unit) refl
   where
-    go : (v : Verdict) → accept_verdict e store unit ≡ v
+    go : (v : Result (Unit {0}) Refusal) → accept_verdict e store unit ≡ v
         → (store_is (accept e store unit).end (length (accept_store e store unit)) ≡ true)
         × (sound (accept e store unit).end (accept_store e store unit) ≡ true)
-    go (Refused r) t = let u = refused_changes_nothing e store unit r t in (cc (h, u.0, u.1), cc (k, u.0, u.1))
-    go Admitted t = (admitted_store_is e store unit t, admitted_sound e store unit t)
+    go (Err r) t = let u = refused_changes_nothing e store unit r t in (cc (h, u.0, u.1), cc (k, u.0, u.1))
+    go (Ok u) t = (admitted_store_is e store unit t, admitted_sound e store unit t)

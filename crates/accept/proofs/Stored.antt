@@ -11,8 +11,8 @@ use lib.ListN.{length, take, drop, length-drop}
 use lib.Seq.{take_all}
 use Rattle.end_state.specs.Update.{with_held}
 use Rattle.end_state.specs.Ring.{flit_at, put_at, ring_place, stored}
+use Rattle.std.specs.Prelude.{Ok}
 use Rattle.end_state.specs.declared.End.{End}
-use Rattle.end_state.specs.declared.Verdict.TheVariants.{Admitted}
 use Rattle.end_state.proofs.Places.{place_under, same_place, flit_length, put_length, flit_put_same, flit_put_other}
 use Rattle.accept_verdict.specs.Admission.{flits_of, control_of, accept_verdict}
 use Rattle.accept_verdict.proofs.Admitted.{Admission, admission}
@@ -79,12 +79,12 @@ module _
     written_at (suc n) i h k = more n i h k (λ y. written_at n i (omega arith) y)
 
 -- the state and the store after an admitted call
-pub admitted_end : (e : End) (store unit : List ℕ) → accept_verdict e store unit ≡ Admitted
+pub admitted_end : (e : End) (store unit : List ℕ) → accept_verdict e store unit ≡ Ok tt
     → (accept e store unit).end ≡ with_held (e.held.0 + flits_of unit) e
 unfolding accept
 admitted_end e store unit h = simp h
 
-pub admitted_store : (e : End) (store unit : List ℕ) → accept_verdict e store unit ≡ Admitted
+pub admitted_store : (e : End) (store unit : List ℕ) → accept_verdict e store unit ≡ Ok tt
     → accept_store e store unit ≡ flits_stored e.capacity.0 e.first e.held.0 store unit (flits_of unit)
 unfolding accept_store
 admitted_store e store unit h = simp h
@@ -96,7 +96,7 @@ last_flit unit h k =
     let a : (flits_of unit - 1) * 64 ≡ length unit - 64 = omega arith in
     ap (λ (n : ℕ). take 64 (drop n unit)) a ∙ take_all 64 (drop (length unit - 64) unit) (omega (arith, length-drop (length unit - 64) unit))
 
-module _ (e : End) (store unit : List ℕ) (admitted : accept_verdict e store unit ≡ Admitted) where
+module _ (e : End) (store unit : List ℕ) (admitted : accept_verdict e store unit ≡ Ok tt) where
   facts : Admission e store unit
   facts = admission e store unit admitted
 

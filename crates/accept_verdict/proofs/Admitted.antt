@@ -2,6 +2,7 @@
 use mathlib.Core.Bool.{true, false, not}
 use mathlib.Core.List.{List}
 use mathlib.Core.Path.{◌≡◌}
+use Rattle.std.specs.Prelude.{Ok}
 use Prim.Native.Nat.{ℕ, ◌+◌, ◌-◌, ◌*◌, ◌/◌, ◌%◌, ◌<◌, ◌≤◌}
 use native.Mathlib.Omega.{arith}
 use borrow.Author.Tests.{ltb-true, ltb-false, leb-true, eqb-true, not-false}
@@ -11,7 +12,6 @@ use Rattle.flit_read.specs.Fields.{acceptable}
 use Rattle.end_state.specs.Refusals.{store_is, sound, is_down, last_run}
 use Rattle.end_state.specs.declared.End.{End}
 use Rattle.end_state.specs.declared.Refusal.TheVariants as refusal
-use Rattle.end_state.specs.declared.Verdict.TheVariants.{Admitted}
 use Rattle.end_state.proofs.Tests.{and_l, and_r}
 use Rattle.end_state.proofs.Facts.{Stored, stored_is, Sound, sound_is}
 use Rattle.end_state.proofs.Verdicts.{past}
@@ -44,16 +44,16 @@ pub record Admission (e : End) (store unit : List ℕ) : Type 0 where
   pub state : Sound e store
   pub shape : Shaped (length unit)
 
-pub admission : (e : End) (store unit : List ℕ) → accept_verdict e store unit ≡ Admitted → Admission e store unit
+pub admission : (e : End) (store unit : List ℕ) → accept_verdict e store unit ≡ Ok tt → Admission e store unit
 unfolding accept_verdict
 admission e store unit h =
-    let p1 = past (not (store_is e (length store))) refusal.Store _ h in
-    let p2 = past (not (sound e store)) refusal.State _ p1.rest in
-    let p3 = past (not (unit_shaped (length unit))) refusal.Shape _ p2.rest in
-    let p4 = past (is_down e.mode) refusal.Down _ p3.rest in
-    let p5 = past (not (eqb (flits_of unit - 1) (last_run e store))) refusal.Run _ p4.rest in
-    let p6 = past (not (acceptable (control_of unit))) refusal.Field _ p5.rest in
-    let p7 = past (ltb e.capacity.0 (e.held.0 + flits_of unit)) refusal.Full _ p6.rest in
+    let p1 = past (not (store_is e (length store))) refusal.Store _ tt h in
+    let p2 = past (not (sound e store)) refusal.State _ tt p1.rest in
+    let p3 = past (not (unit_shaped (length unit))) refusal.Shape _ tt p2.rest in
+    let p4 = past (is_down e.mode) refusal.Down _ tt p3.rest in
+    let p5 = past (not (eqb (flits_of unit - 1) (last_run e store))) refusal.Run _ tt p4.rest in
+    let p6 = past (not (acceptable (control_of unit))) refusal.Field _ tt p5.rest in
+    let p7 = past (ltb e.capacity.0 (e.held.0 + flits_of unit)) refusal.Full _ tt p6.rest in
     let s1 = not-false (store_is e (length store)) p1.test in
     let s2 = not-false (sound e store) p2.test in
     let s3 = not-false (unit_shaped (length unit)) p3.test in

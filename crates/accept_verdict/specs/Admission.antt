@@ -1,11 +1,10 @@
 -- What accept refuses (01, "Refusals by number").
-use Rattle.std.specs.Prelude.{Bool, not, ◌&&◌, cond, List, ℕ, ◌+◌, ◌-◌, ◌/◌, ◌%◌, ltb, leb, eqb, length, drop}
+use Rattle.std.specs.Prelude.{Bool, not, ◌&&◌, cond, List, ℕ, ◌+◌, ◌-◌, ◌/◌, ◌%◌, ltb, leb, eqb, length, drop, Result, Ok, Err}
 use Rattle.flit_read.specs.Fields.{acceptable}
 use Rattle.end_state.specs.Refusals.{store_is, sound, is_down, last_run}
 use Rattle.end_state.specs.declared.End.{End}
+use Rattle.end_state.specs.declared.Refusal.{Refusal}
 use Rattle.end_state.specs.declared.Refusal.TheVariants as refusal
-use Rattle.end_state.specs.declared.Verdict.{Verdict}
-use Rattle.end_state.specs.declared.Verdict.TheVariants.{Refused, Admitted}
 
 -- 3 SHAPE: unit length 0, over 576 or not a multiple of 64
 unfoldable pub unit_shaped : ℕ → Bool
@@ -19,13 +18,13 @@ abbrev pub control_of : List ℕ → List ℕ
 control_of unit = drop (length unit - 64) unit
 
 -- the refusals of accept, in the table's order
-unfoldable pub accept_verdict : End → List ℕ → List ℕ → Verdict
+unfoldable pub accept_verdict : End → List ℕ → List ℕ → Result (Unit {0}) Refusal
 accept_verdict e store unit =
-    cond (not (store_is e (length store))) (Refused refusal.Store)
-    (cond (not (sound e store)) (Refused refusal.State)
-    (cond (not (unit_shaped (length unit))) (Refused refusal.Shape)
-    (cond (is_down e.mode) (Refused refusal.Down)
-    (cond (not (eqb (flits_of unit - 1) (last_run e store))) (Refused refusal.Run)
-    (cond (not (acceptable (control_of unit))) (Refused refusal.Field)
-    (cond (ltb e.capacity.0 (e.held.0 + flits_of unit)) (Refused refusal.Full)
-    Admitted))))))
+    cond (not (store_is e (length store))) (Err refusal.Store)
+    (cond (not (sound e store)) (Err refusal.State)
+    (cond (not (unit_shaped (length unit))) (Err refusal.Shape)
+    (cond (is_down e.mode) (Err refusal.Down)
+    (cond (not (eqb (flits_of unit - 1) (last_run e store))) (Err refusal.Run)
+    (cond (not (acceptable (control_of unit))) (Err refusal.Field)
+    (cond (ltb e.capacity.0 (e.held.0 + flits_of unit)) (Err refusal.Full)
+    (Ok tt)))))))

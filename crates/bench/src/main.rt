@@ -4,25 +4,32 @@
 #![tactic(auto)]
 
 ghost use Rattle.std.specs.Prelude.{◌≡◌, ◌+◌, ◌^◌, ◌≤◌, ◌<◌, IfOk, length};
-ghost use Rattle.crc.specs.Register.{table};
 
 use bench_capture::Bench;
 use std::env::{Env, FillError};
-use std::io;
 use std::io::Read;
+use text::Writer;
+use text_out::Failed;
 
-// What is kept after a read: the bytes of an unfinished flit are at the start of the input.
-#[derive(Clone, Copy)]
-struct Turn {
+// What is kept between reads, with the buffers. The bytes of an unfinished flit are at the start of the input.
+#[derive(Drop)]
+struct Capture {
     kept: Bench,
     rest: usize,
-    reading: bool,
-    failed: bool,
+    store: [u8; 576],
+    hold: [u8; 576],
+    input: [u8; 65536],
+    out: [u8; 131072],
 }
+
+// A proved loop has to end, and nothing says that the input does. So there are at most so many reads, a number that no run uses up.
+const READS: u64 = 1125899906842624;
 
 fn main(rt: HostRuntime) {
     match wanted(&rt) {
-        Some(ticketed) => bench(&rt, &mut rt.stdin(), ticketed),
+        Some(ticketed) => {
+            let _ = print_all(&rt, &mut rt.stdin(), ticketed);
+        }
         None => {
             let _ = eprint!(rt; "usage: bench [--ticket] < flits\n");
         }
@@ -44,103 +51,95 @@ fn wanted<R: Env>(rt: &R) -> Option<bool> {
     }
 }
 
+// drive has such a function too. A crate for these two lines, with its contract, would be longer than both.
 fn has_argument<R: Env>(rt: &R, i: usize) -> bool {
     let mut word = [0u8; 16];
     !matches!(rt.arg(i, &mut word), Err(FillError::NotPresent))
 }
 
-// Lays the check's table down, once, and the buffers.
-fn bench<R: Print + Eprint, S: Read>(rt: &R, stdin: &mut S, ticketed: bool) {
-    let t = crc::laid();
-    let store = [0u8; 576];
-    let mut hold = [0u8; 576];
-    let mut input = [0u8; 65536];
-    let mut out = [0u8; 131072];
-    print_all(
-        rt, stdin, &t, &store, &mut hold, &mut input, &mut out, ticketed,
-    );
-}
-
-// A proved loop has to end, and nothing says that the input does. So the loop counts its turns down, from a number that no run
-// uses up.
+// The last lines are printed unless a read or a write failed.
 fn print_all<R: Print + Eprint, S: Read>(
     rt: &R,
     stdin: &mut S,
-    t: &[u64; 256],
-    store: &[u8],
-    hold: &mut [u8],
-    input: &mut [u8],
-    out: &mut [u8],
     ticketed: bool,
-)
-    requires { (t.now ≡ table) × (length input.old ≡ 65536) × (length out.old ≡ 131072) }
-{
-    let mut kept = bench_capture::begin(store);
-    let mut rest: usize = 0;
-    let mut reading = true;
-    let mut failed = false;
-    let mut turns: u64 = 1125899906842624;
-    while reading & (0 < turns) {
-        let turn = print_some(rt, stdin, t, kept, rest, store, hold, input, out);
-        kept = turn.kept;
-        rest = turn.rest;
-        reading = turn.reading;
-        failed = turn.failed;
-        turns -= 1;
+) -> Result<(), Failed> {
+    let mut capture = Capture::begin();
+    for _ in 0..READS {
+        if !capture.print_some(rt, stdin)? {
+            break;
+        }
     }
-    if !failed {
-        let counts = kept.ticket;
-        let bytes = bench_line::put_last_lines(out, rest, counts, ticketed);
-        text_out::write(rt, out, bytes);
-    }
+    capture.print_last(rt, ticketed)
 }
 
-// Reads once, and prints the lines of the whole flits that are there.
-fn print_some<R: Print + Eprint, S: Read>(
-    rt: &R,
-    stdin: &mut S,
-    t: &[u64; 256],
-    kept: Bench,
-    rest: usize,
-    store: &[u8],
-    hold: &mut [u8],
-    input: &mut [u8],
-    out: &mut [u8],
-) -> Turn
-    requires { (t.now ≡ table) × (rest < 64) × (length input.old ≡ 65536) × (length out.old ≡ 131072) × (kept.flits + 1024 < 2 ^ 64) }
-    ensures { (result.rest < 64) × (result.kept.flits ≤ kept.flits + 1024) }
-{
-    let more = match read_after(stdin, input, rest) {
-        Ok(more) => more,
-        Err(error) => {
-            text_out::fail(rt, "standard input", error);
-            return Turn {
-                kept: kept,
-                rest: rest,
-                reading: false,
-                failed: true,
-            };
+impl Capture {
+    fn begin() -> Capture
+        ensures { (result.rest ≡ 0) × (result.kept.flits ≡ 0) }
+    {
+        let store = [0u8; 576];
+        Capture {
+            kept: bench_capture::begin(&store),
+            rest: 0,
+            store,
+            hold: [0u8; 576],
+            input: [0u8; 65536],
+            out: [0u8; 131072],
         }
-    };
-    let bytes = rest + more;
-    let printed = bench_capture::print_flits(t, kept, store, hold, &input[..bytes], out);
-    let after = printed.kept;
-    let lines = printed.bytes;
-    let left = bytes % 64;
-    bench_capture::keep_rest(input, bytes - left, left);
-    let written = text_out::write(rt, out, lines);
-    Turn {
-        kept: after,
-        rest: left,
-        reading: written & (0 < more),
-        failed: !written,
+    }
+
+    // Reads once, prints the lines of the whole flits that are there, and answers whether there was anything to read.
+    fn print_some<R: Print + Eprint, S: Read>(
+        &mut self,
+        rt: &R,
+        stdin: &mut S,
+    ) -> Result<bool, Failed>
+        requires { (self.old.rest < 64) × (self.old.kept.flits + 1024 < 2 ^ 64) }
+        ensures { IfOk result (λ more. (self.new.rest < 64) × (self.new.kept.flits ≤ self.old.kept.flits + 1024)) }
+    {
+        let more = read_after(rt, stdin, &mut self.input, self.rest)?;
+        let bytes = self.rest + more;
+        let mut writer = Writer {
+            out: &mut self.out,
+            at: 0,
+        };
+        self.kept = bench_capture::print_flits(
+            self.kept,
+            &self.store,
+            &mut self.hold,
+            &self.input[..bytes],
+            &mut writer,
+        );
+        text_out::write(rt, writer)?;
+        self.rest = bytes % 64;
+        bench_capture::keep_rest(&mut self.input, bytes - self.rest, self.rest);
+        Ok(0 < more)
+    }
+
+    // Prints the lines after the last flit.
+    fn print_last<R: Print + Eprint>(&mut self, rt: &R, ticketed: bool) -> Result<(), Failed> {
+        let mut writer = Writer {
+            out: &mut self.out,
+            at: 0,
+        };
+        let ticket = if ticketed {
+            Some(self.kept.ticket)
+        } else {
+            None
+        };
+        bench_line::put_last_lines(&mut writer, self.rest, ticket);
+        text_out::write(rt, writer)
     }
 }
 
 // Reads once, to the places after the bytes left over.
-fn read_after<S: Read>(stdin: &mut S, input: &mut [u8], rest: usize) -> io::Result<usize>
+fn read_after<R: Eprint, S: Read>(
+    rt: &R,
+    stdin: &mut S,
+    input: &mut [u8],
+    rest: usize,
+) -> Result<usize, Failed>
     requires { rest ≤ length input.old }
     ensures { IfOk result (λ more. rest + more ≤ length input.new) }
 {
-    stdin.read(&mut input[rest..])
+    text_out::read(rt, stdin, &mut input[rest..])
 }

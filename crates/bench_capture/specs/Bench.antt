@@ -3,8 +3,9 @@ use Rattle.std.specs.Prelude.{List, [], ◌++◌, ℕ, zero, suc, ◌+◌, ◌/�
 use Rattle.ticket.specs.Ticket.{TicketCall, nothing, ticket_after}
 use Rattle.end_state.specs.State.{start}
 use Rattle.end_state.specs.Ring.{flit_at}
+use Rattle.end_state.specs.declared.Answered.{Answered}
 use Rattle.receive.specs.Receive.{receive, receive_hold}
-use Rattle.receive.specs.declared.Received.{Received}
+use Rattle.receive_answer.specs.declared.Answer.{Answer}
 use Rattle.bench_line.specs.Line.{flit_line}
 use Rattle.bench_capture.specs.declared.Bench.{Bench}
 
@@ -19,7 +20,7 @@ pub record BenchSession : Type 0 where
   pub lines : List ℕ
 
 -- what receive gives for a flit: the answer is counted and printed
-abbrev pub after_flit : BenchSession → Received → List ℕ → BenchSession
+abbrev pub after_flit : BenchSession → Answered Answer → List ℕ → BenchSession
 after_flit s r hold =
     record {
       kept = record { end = r.end; flits = s.kept.flits + 1; ticket = ticket_after s.kept.ticket (TicketCall.receives r.answer) };

@@ -1,22 +1,22 @@
 -- The lines from their forms, and how long they are.
-use mathlib.Core.Bool.{Bool, true, false}
 use mathlib.Core.List.{List, [], ◌∷◌, ◌++◌, append-nil, append_assoc}
-use mathlib.Core.Path.{◌≡◌, ap, sym, ◌∙◌}
+use mathlib.Core.Path.{◌≡◌, refl, ap, sym, ◌∙◌}
 use Prim.Native.Nat.{ℕ, ◌≤◌}
 use native.Mathlib.Omega.{arith}
 use lib.ListN.{length, length-append}
-use Rattle.text.specs.Text.{ascii, decimal, filled, Puts}
-use Rattle.text.proofs.Laws.{length_decimal, puts_more, puts_as}
+use Rattle.std.specs.Prelude.{Option, Some, None}
+use Rattle.text.specs.declared.Writer.{Writer}
+use Rattle.text.specs.Text.{ascii, decimal, filled, Appends}
+use Rattle.text.proofs.Laws.{length_decimal, appends_more, appends_as}
 use Rattle.ticket.specs.Ticket.{text}
 use Rattle.ticket.specs.declared.Ticket.{Ticket}
 use Rattle.ticket.proofs.Laws.{text_short}
 use Rattle.text_word.specs.Words.{answer_word, mode_word}
 use Rattle.text_word.proofs.Laws.{answer_short, mode_short}
-use Rattle.end_state.proofs.Tests.{cond_true, cond_false}
 use Rattle.end_state.specs.declared.End.{End}
 use Rattle.receive_answer.specs.Answers.{tells}
 use Rattle.receive_answer.specs.declared.Answer.{Answer}
-use Rattle.bench_line.specs.Line.{answer_part, state_part, flit_line, last_lines}
+use Rattle.bench_line.specs.Line.{answer_part, state_part, flit_line, ticket_asked, last_lines}
 
 answer_part_short : (flit : ℕ) (a : Answer) → length (answer_part flit a) ≤ 80
 unfolding answer_part
@@ -48,26 +48,22 @@ line_is flit a e n h =
     ∙ ap (λ (k : ℕ). (ascii "flit=" ++ decimal flit ++ ascii " answer=" ++ answer_word a ++ (ascii " data=" ++ decimal k)) ++ state_part e) h
 
 -- the last lines, with the ticket and without it
-pub puts_ticketed : {out middle after : List ℕ} {at next last : ℕ} (rest : ℕ) (t : Ticket) (ticketed : Bool) → ticketed ≡ true
-    → Puts out at (filled (ascii "rest=#\n") (rest ∷ [])) next middle → Puts middle next (text t) last after
-    → Puts out at (last_lines rest t ticketed) last after
+lines_joined : (rest : ℕ) (ticket : Option Ticket)
+    → filled (ascii "rest=#\n") (rest ∷ []) ++ ticket_asked ticket ≡ last_lines rest ticket
 unfolding filled last_lines
-puts_ticketed rest t ticketed h p q =
-    puts_as
-    (ap (λ (l : List ℕ). ascii "rest=" ++ decimal rest ++ ascii "\n" ++ l) (sym (cond_true ticketed (text t) [] h)))
-    (puts_more p q)
+lines_joined rest ticket = refl
 
-pub puts_unticketed : {out after : List ℕ} {at next : ℕ} (rest : ℕ) (t : Ticket) (ticketed : Bool) → ticketed ≡ false
-    → Puts out at (filled (ascii "rest=#\n") (rest ∷ [])) next after → Puts out at (last_lines rest t ticketed) next after
-unfolding filled last_lines
-puts_unticketed rest t ticketed h p =
-    puts_as
-    (sym
-    (ap (λ (l : List ℕ). ascii "rest=" ++ decimal rest ++ ascii "\n" ++ l) (cond_false ticketed (text t) [] h)
-    ∙ append-nil (ascii "rest=" ++ decimal rest ++ ascii "\n")))
-    p
+pub appends_ticketed : {before middle after : Writer} (rest : ℕ) (ticket : Option Ticket) (t : Ticket) → ticket ≡ Some t
+    → Appends before (filled (ascii "rest=#\n") (rest ∷ [])) middle → Appends middle (text t) after
+    → Appends before (last_lines rest ticket) after
+appends_ticketed rest ticket t h p q = rw h (appends_as (lines_joined rest (Some t)) (appends_more p q))
 
-pub last_short : (rest : ℕ) (counts : Ticket) (ticketed : Bool) → length (last_lines rest counts ticketed) ≤ 256
+pub appends_unticketed : {before after : Writer} (rest : ℕ) (ticket : Option Ticket) → ticket ≡ None
+    → Appends before (filled (ascii "rest=#\n") (rest ∷ [])) after → Appends before (last_lines rest ticket) after
+appends_unticketed rest ticket h p =
+    rw h (appends_as (sym (append-nil _) ∙ lines_joined rest None) p)
+
+pub last_short : (rest : ℕ) (ticket : Option Ticket) → length (last_lines rest ticket) ≤ 256
 unfolding last_lines
-last_short rest counts true = simp length-append (omega (arith, length_decimal rest, text_short counts))
-last_short rest counts false = simp length-append (omega (arith, length_decimal rest))
+last_short rest (Some t) = simp length-append (omega (arith, length_decimal rest, text_short t))
+last_short rest None = simp length-append (omega (arith, length_decimal rest))

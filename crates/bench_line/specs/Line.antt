@@ -1,5 +1,5 @@
 -- The lines that bench prints (01, "The bench ticket"): one for each flit, and those after the last.
-use Rattle.std.specs.Prelude.{Bool, cond, List, [], ◌++◌, ℕ}
+use Rattle.std.specs.Prelude.{Option, Some, None, List, [], ◌++◌, ℕ}
 use Rattle.text.specs.Text.{ascii, key_value}
 use Rattle.text_word.specs.Words.{answer_word, mode_word}
 use Rattle.ticket.specs.declared.Ticket.{Ticket}
@@ -19,6 +19,11 @@ state_part e = key_value " wanted=" e.wanted.0 ++ ascii " mode=" ++ mode_word e.
 unfoldable pub flit_line : ℕ → Answer → End → List ℕ
 flit_line flit answer e = answer_part flit answer ++ state_part e
 
+-- the ticket, where it is asked for
+abbrev pub ticket_asked : Option Ticket → List ℕ
+ticket_asked None = []
+ticket_asked (Some t) = text t
+
 -- rest is the bytes left over; with --ticket the ticket follows
-unfoldable pub last_lines : ℕ → Ticket → Bool → List ℕ
-last_lines rest ticket ticketed = key_value "rest=" rest ++ ascii "\n" ++ cond ticketed (text ticket) []
+unfoldable pub last_lines : ℕ → Option Ticket → List ℕ
+last_lines rest ticket = key_value "rest=" rest ++ ascii "\n" ++ ticket_asked ticket

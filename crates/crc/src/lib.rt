@@ -1,7 +1,5 @@
 // The check of document 01: a unit is right exactly when the polynomial of degree 36 divides its bits. The division takes a byte at a time
-// through a table of 256 remainders, and keeps a 36-bit remainder in a u64, the coefficient of x^35 in bit 0. A constant array is laid down
-// by stores in each function that names it, so one function names the table, and the others are handed it: who checks many units lays it
-// down once and calls the functions that end in `_with`.
+// through a table of 256 remainders, and keeps a 36-bit remainder in a u64, the coefficient of x^35 in bit 0.
 
 #![tactic(auto)]
 
@@ -16,38 +14,19 @@ pub fn right(unit: &[u8]) -> bool
     ensures value { result ≡ right_of unit.now }
     ensures right { (result ≡ true → IsRight unit.now) × (IsRight unit.now → result ≡ true) }
 {
-    let t = laid();
-    right_with(&t, unit)
-}
-
-pub fn right_with(t: &[u64; 256], unit: &[u8]) -> bool
-    requires { t.now ≡ table }
-    ensures { result ≡ right_of unit.now }
-{
-    let left = continued(t, 0, unit);
-    left == 0
+    continued(0, unit) == 0
 }
 
 // Whether a unit is right whose data lies in one place and its closing flit in another.
-pub fn right_after(t: &[u64; 256], held: &[u8], flit: &[u8]) -> bool
-    requires { t.now ≡ table }
+pub fn right_after(held: &[u8], flit: &[u8]) -> bool
     ensures { result ≡ right_of (held.now ++ flit.now) }
 {
-    let so_far = continued(t, 0, held);
-    let left = continued(t, so_far, flit);
-    left == 0
+    let so_far = continued(0, held);
+    continued(so_far, flit) == 0
 }
 
 // Whether the flit that starts at a place of a unit or a store is right alone; false where it is not inside.
 pub fn flit_right(s: &[u8], at: usize) -> bool
-    ensures { result ≡ flit_right_of s.now at }
-{
-    let t = laid();
-    flit_right_with(&t, s, at)
-}
-
-pub fn flit_right_with(t: &[u64; 256], s: &[u8], at: usize) -> bool
-    requires { t.now ≡ table }
     ensures { result ≡ flit_right_of s.now at }
 {
     if s.len() < 64 {
@@ -57,26 +36,18 @@ pub fn flit_right_with(t: &[u64; 256], s: &[u8], at: usize) -> bool
         return false;
     }
     let end = at + 64;
-    right_with(t, &s[at..end])
+    right(&s[at..end])
 }
 
 // Makes a unit right: its last 36 bits become its check. A slice under five bytes has no room for one and stays.
 pub fn seal(unit: &mut [u8])
     ensures { unit.new ≡ sealed unit.old }
 {
-    let t = laid();
-    seal_with(&t, unit);
-}
-
-pub fn seal_with(t: &[u64; 256], unit: &mut [u8])
-    requires { t.now ≡ table }
-    ensures { unit.new ≡ sealed unit.old }
-{
     if unit.len() < 5 {
         return;
     }
     put_check(unit, 0);
-    let check = continued(t, 0, unit);
+    let check = continued(0, unit);
     put_check(unit, check);
 }
 
@@ -84,31 +55,26 @@ pub fn seal_with(t: &[u64; 256], unit: &mut [u8])
 pub fn remainder(unit: &[u8]) -> u64
     ensures { result ≡ bits_number (remainder_of polynomial (bits unit.now)) }
 {
-    let t = laid();
-    continued(&t, 0, unit)
+    continued(0, unit)
 }
 
 // The remainder r of the parts before this one, continued over it; it begins at 0.
-pub fn continued(t: &[u64; 256], r: u64, part: &[u8]) -> u64
-    requires { t.now ≡ table }
+pub fn continued(r: u64, part: &[u8]) -> u64
     ensures { result ≡ continued_of r part.now }
 {
     let mut left = r;
-    let mut i = 0;
-    while i < part.len() {
-        left = step(t, left, part[i]);
-        i += 1;
+    for &b in part {
+        left = step(left, b);
     }
     left
 }
 
 // The remainder after one more byte.
-fn step(t: &[u64; 256], r: u64, b: u8) -> u64
-    requires { t.now ≡ table }
+fn step(r: u64, b: u8) -> u64
     ensures { result ≡ take_byte r b }
 {
     let i = (r & 255) as usize;
-    (r >> 8) ^ t[i] ^ ((b as u64) << 28)
+    (r >> 8) ^ TABLE[i] ^ ((b as u64) << 28)
 }
 
 // Writes a check at a unit's last 36 bits. The byte where it begins keeps its low half.
@@ -137,7 +103,7 @@ pub fn laid() -> [u64; 256]
 }
 
 // Entry i is what eight places of the division make of i.
-const TABLE: [u64; 256] = [
+static TABLE: [u64; 256] = [
     0,
     9508484401,
     19016968802,

@@ -3,18 +3,16 @@ use mathlib.Core.Bool.{Bool, true, false, cond}
 use mathlib.Core.List.{List, [], ◌∷◌, ◌++◌, append-nil}
 use mathlib.Core.Path.{◌≡◌, refl, sym, ap, ap₂, subst, ◌∙◌}
 use Prim.Native.Nat.{ℕ, zero, suc, ◌+◌, ◌-◌, ◌≤◌, ◌<◌}
-use native.Mathlib.Numerals.{add-one}
 use native.Mathlib.Omega.{arith}
 use borrow.Author.Tests.{ltb-true, ltb-false, le-leb, lt-leb, ne_eqb}
 use borrow.Rule.Slice.PartMut.{put_mid, mid_len, Post-is}
 use lib.Dec.{ltb}
-use lib.ListN.{length, take, drop, set, get_or, length-append, length-take, length-drop, replicate, length-replicate, take-append-drop, drop_of_length-le, replicate-append-replicate}
-use lib.Seq.{length-take-le, length_front, take_all, drop-cons, append_snoc, set_at, take_at, drop_at, drop-drop, take-add, take-append-le, take-append-add, drop-append-add}
+use lib.ListN.{length, take, drop, length-append, length-take, length-drop, replicate, length-replicate, take-append-drop, drop_of_length-le, replicate-append-replicate}
+use lib.Seq.{length-take-le, length_front, take_all, take_at, drop_at, drop-drop, take-add, take-append-le, take-append-add, drop-append-add}
 use native.Mathlib.Nat.{sub-zero}
 use Rattle.text.specs.Text.{written}
 use Rattle.text.proofs.Laws.{written_none, length_written}
-use Rattle.drive_side.specs.declared.Side.{Side}
-use Rattle.drive_call.specs.Sides.{Clean, repeated, lent_bytes, kept_after, accepts_store, receives_hold, fill_fits}
+use Rattle.drive_call.specs.Sides.{Clean, repeated, lent_bytes, kept_after, fill_fits}
 
 -- ---- bytes alike
 
@@ -25,28 +23,6 @@ length_repeated n b = length-replicate n b
 repeated_add : (n m b : ℕ) → repeated n b ++ repeated m b ≡ repeated (n + m) b
 unfolding repeated
 repeated_add n m b = replicate-append-replicate n m b
-
-repeated_more : (n b : ℕ) → repeated n b ++ (b ∷ []) ≡ repeated (n + 1) b
-unfolding repeated
-repeated_more n b = repeated_add n 1 b
-
-pub repeated_none : (b : ℕ) (l : List ℕ) → l ≡ repeated 0 b ++ l
-unfolding repeated
-repeated_none b l = refl
-
--- one byte more
-pub filled_next : (xs : List ℕ) (b i : ℕ) → i < length xs → set (repeated i b ++ drop i xs) i b ≡ repeated (i + 1) b ++ drop (i + 1) xs
-filled_next xs b i h =
-    ap (λ (l : List ℕ). set (repeated i b ++ l) i b) (drop-cons xs i 0 h)
-    ∙ set_at (repeated i b) (get_or xs i 0) (drop (suc i) xs) b i (length_repeated i b)
-    ∙ sym (append_snoc (repeated i b) b (drop (suc i) xs))
-    ∙ ap₂ (λ (l : List ℕ) (k : ℕ). l ++ drop k xs) (repeated_more i b) (sym (add-one i))
-
-pub filled_all : (xs : List ℕ) (b i : ℕ) → i ≡ length xs → repeated i b ++ drop i xs ≡ repeated (length xs) b
-filled_all xs b i h =
-    ap (λ (l : List ℕ). repeated i b ++ l) (drop_of_length-le xs {i = i} (omega arith))
-    ∙ append-nil (repeated i b)
-    ∙ ap (λ (k : ℕ). repeated k b) h
 
 -- ---- what is lent
 
@@ -91,11 +67,6 @@ take_lent (suc n) (suc m) (x ∷ kept) h =
     ap (take (suc n)) (lent_more m x kept) ∙ ap (λ (l : List ℕ). x ∷ l) (take_lent n m kept (omega arith)) ∙ sym (lent_more n x kept)
 
 -- ---- clean buffers
-
--- all of a buffer is kept
-pub clean_whole : (xs : List ℕ) (n : ℕ) → length xs ≤ n → Clean n xs
-unfolding repeated
-clean_whole xs n h = drop_of_length-le xs {i = n} h ∙ ap (λ (i : ℕ). repeated i 0) {x = 0} {y = length xs - n} (omega arith)
 
 pub clean_at : (xs : List ℕ) (i j : ℕ) → i ≡ j → Clean i xs → Clean j xs
 clean_at xs i j e z = subst (λ (k : ℕ). Clean k xs) e z
@@ -179,78 +150,73 @@ back xs after kept n h k e = by (ltb kept n) refl
         ∙ take-append-add after (drop n xs) (kept - n)
         ∙ ap₂ (λ (x y : List ℕ). x ++ y) (sym (take_all (length (take kept xs)) after (omega arith))) (sym dropped)
 
-length_kept_after : (after kept : List ℕ) → length (kept_after after kept) ≡ length kept
+pub length_kept_after : (after kept : List ℕ) → length (kept_after after kept) ≡ length kept
 unfolding kept_after
 length_kept_after after kept = simp (length-append, length-take, length-drop) (omega arith)
 
-pub length_accepts_store : (s : Side) (store unit : List ℕ) → length (accepts_store s store unit) ≡ length store
-unfolding accepts_store
-length_accepts_store s store unit = length_kept_after _ store
-
-pub length_receives_hold : (s : Side) (store hold flit : List ℕ) → length (receives_hold s store hold flit) ≡ length hold
-unfolding receives_hold
-length_receives_hold s store hold flit = length_kept_after _ hold
-
--- ---- a call with a part of a buffer, as the borrow checker says it
+-- ---- a call with a part of a buffer
 
 module _ (xs : List ℕ) (kept n : ℕ) (h : kept ≤ length xs) (k : n ≤ length xs) (z : Clean kept xs) where
-  pub lent_part : take (n - 0) xs ≡ lent_bytes n (take kept xs)
-  lent_part = ap₂ (λ (m : ℕ) (x : List ℕ). take m x) (sub-zero n) (clean_is xs kept h z) ∙ take_lent n (length xs) (take kept xs) k
+  pub lent_part : take n xs ≡ lent_bytes n (take kept xs)
+  lent_part = ap (take n) (clean_is xs kept h z) ∙ take_lent n (length xs) (take kept xs) k
 
   -- what the call left: past what it may have written, and past the kept bytes, the buffer is clean still
-  module _ (after : List ℕ) (l : length after ≡ length (take (n - 0) xs)) where
+  module _ (after : List ℕ) (l : length after ≡ length (take n xs)) where
     size : length after ≡ n
-    size = l ∙ length-take-le (n - 0) xs (omega arith) ∙ sub-zero n
+    size = l ∙ length-take-le n xs k
 
-    pub left_clean : Clean (kept + (n - kept)) (after ++ drop (n - 0) xs)
+    whole : length (after ++ drop n xs) ≡ length xs
+    whole = length_front xs after n l
+
+    pub left_clean : (kept ≤ length (after ++ drop n xs)) × (n ≤ length (after ++ drop n xs)) × Clean (kept + (n - kept)) (after ++ drop n xs)
     left_clean =
-        let j = kept + (n - kept) in
-        let whole : length (after ++ drop (n - 0) xs) ≡ length xs = length_front xs after (n - 0) l in
-        ap₂ (λ (i m : ℕ). drop i (after ++ drop m xs)) {x = j} {y = length after + (j - n)} (omega (arith, size)) (sub-zero n)
-        ∙ drop-append-add after (drop n xs) (j - n)
-        ∙ drop-drop (j - n) n xs
-        ∙ ap (λ (i : ℕ). drop i xs) {x = n + (j - n)} {y = j} (omega arith)
-        ∙ clean_past xs kept j (omega arith) z
-        ∙ ap (λ (i : ℕ). repeated (i - j) 0) (sym whole)
+        let j = kept + (n - kept) in (
+          omega (arith, whole),
+          omega (arith, whole),
+          ap (λ (i : ℕ). drop i (after ++ drop n xs)) {x = j} {y = length after + (j - n)} (omega (arith, size))
+              ∙ drop-append-add after (drop n xs) (j - n)
+              ∙ drop-drop (j - n) n xs
+              ∙ ap (λ (i : ℕ). drop i xs) {x = n + (j - n)} {y = j} (omega arith)
+              ∙ clean_past xs kept j (omega arith) z
+              ∙ ap (λ (i : ℕ). repeated (i - j) 0) (sym whole),
+        )
 
     -- and, cleared again, it has what is kept of that
-    pub left_part : (after' exit : List ℕ) → after ≡ after' → exit ≡ lent_bytes (length (after ++ drop (n - 0) xs)) (take kept (after ++ drop (n - 0) xs))
+    pub left_part : (after' exit : List ℕ) → after ≡ after' → exit ≡ lent_bytes (length (after ++ drop n xs)) (take kept (after ++ drop n xs))
         → exit ≡ lent_bytes (length xs) (kept_after after' (take kept xs))
     left_part after' exit e f =
-        f
-        ∙ ap₂ (λ (i : ℕ) (x : List ℕ). lent_bytes i x) (length_front xs after (n - 0) l)
-        (ap (λ (i : ℕ). take kept (after ++ drop i xs)) (sub-zero n) ∙ back xs after kept n h k size ∙ ap (λ (x : List ℕ). kept_after x (take kept xs)) e)
+        f ∙ ap₂ lent_bytes whole (back xs after kept n h k size ∙ ap (λ (x : List ℕ). kept_after x (take kept xs)) e)
 
 -- ---- fill
 
 -- what fill answers and leaves
-abbrev pub Filled : List ℕ → ℕ → ℕ → List ℕ → Bool → List ℕ → Type 0
-Filled xs kept offset bytes fits after =
-    (fits ≡ fill_fits kept offset (length bytes))
-    × (after ≡ lent_bytes (length xs) (cond (fill_fits kept offset (length bytes)) (written (take kept xs) offset bytes) (take kept xs)))
+pub record Filled (xs : List ℕ) (kept offset : ℕ) (bytes : List ℕ) (fits : Bool) (after : List ℕ) : Type 0 where
+  pub value : fits ≡ fill_fits kept offset (length bytes)
+  pub left : after ≡ lent_bytes (length xs) (cond (fill_fits kept offset (length bytes)) (written (take kept xs) offset bytes) (take kept xs))
 
-module _ (xs : List ℕ) (kept offset : ℕ) (bytes : List ℕ) (k : kept ≤ length xs) (z : Clean kept xs) where
-  filled_as : (fits : Bool) → fits ≡ fill_fits kept offset (length bytes) → (after : List ℕ)
+module _ {xs : List ℕ} {kept : ℕ} (k : kept ≤ length xs) (z : Clean kept xs) (offset : ℕ) (bytes : List ℕ) where
+  filled_as : {fits : Bool} {after : List ℕ} → fits ≡ fill_fits kept offset (length bytes)
       → after ≡ lent_bytes (length xs) (cond fits (written (take kept xs) offset bytes) (take kept xs)) → Filled xs kept offset bytes fits after
-  filled_as fits e after f = (e, f ∙ ap (λ (b : Bool). lent_bytes (length xs) (cond b (written (take kept xs) offset bytes) (take kept xs))) e)
+  filled_as {fits} {after} e f =
+      record { value = e; left = f ∙ ap (λ (b : Bool). lent_bytes (length xs) (cond b (written (take kept xs) offset bytes) (take kept xs))) e }
 
   pub fill_not : (length bytes ≡ 0 → ⊥) → kept < offset + length bytes → Filled xs kept offset bytes false xs
   unfolding fill_fits
-  fill_not n h = filled_as false (sym (simp (ne_eqb (length bytes) 0 n, lt-leb (offset + length bytes) kept h))) xs (clean_is xs kept k z)
+  fill_not n h = filled_as (sym (simp (ne_eqb (length bytes) 0 n, lt-leb (offset + length bytes) kept h))) (clean_is xs kept k z)
 
-  pub fill_does : (after : List ℕ) → (length bytes ≡ 0 → ⊥) → offset + length bytes ≤ kept → after ≡ written (take (kept - 0) xs) offset bytes
-      → Filled xs kept offset bytes true (after ++ drop (kept - 0) xs)
+  pub fill_does : {after : List ℕ} → (length bytes ≡ 0 → ⊥) → offset + length bytes ≤ kept → after ≡ written (take kept xs) offset bytes
+      → Filled xs kept offset bytes true (after ++ drop kept xs)
   unfolding fill_fits
-  fill_does after n h e =
+  fill_does n h e =
       let new = written (take kept xs) offset bytes in
-      let same : after ≡ new = e ∙ ap (λ (j : ℕ). written (take j xs) offset bytes) (sub-zero kept) in
       let l : length new ≡ kept = length_written (take kept xs) offset bytes ∙ length-take-le kept xs k in
-      filled_as true (sym (simp (ne_eqb (length bytes) 0 n, le-leb (offset + length bytes) kept h))) (after ++ drop (kept - 0) xs)
-      (ap₂ (λ (x : List ℕ) (j : ℕ). x ++ drop j xs) same (sub-zero kept)
+      filled_as (sym (simp (ne_eqb (length bytes) 0 n, le-leb (offset + length bytes) kept h)))
+      (ap (λ (x : List ℕ). x ++ drop kept xs) e
       ∙ ap (λ (x : List ℕ). new ++ x) (z ∙ ap (λ (i : ℕ). repeated (length xs - i) 0) (sym l))
       ∙ lent_whole (length xs) new (omega arith))
 
-pub fill_none : (xs : List ℕ) (kept offset : ℕ) (bytes : List ℕ) → kept ≤ length xs → Clean kept xs → length bytes ≡ 0 → Filled xs kept offset bytes true xs
+pub fill_none : {xs : List ℕ} {kept : ℕ} → kept ≤ length xs → Clean kept xs → (offset : ℕ) (bytes : List ℕ) → length bytes ≡ 0 → Filled xs kept offset bytes true xs
 unfolding fill_fits
-fill_none xs kept offset [] k z h = (refl, clean_is xs kept k z ∙ ap (lent_bytes (length xs)) (sym (written_none (take kept xs) offset)))
-fill_none xs kept offset (x ∷ bytes) k z h = absurd (omega arith)
+fill_none {xs} {kept} k z offset [] h =
+    record { value = refl; left = clean_is xs kept k z ∙ ap (lent_bytes (length xs)) (sym (written_none (take kept xs) offset)) }
+fill_none k z offset (x ∷ bytes) h = absurd (omega arith)

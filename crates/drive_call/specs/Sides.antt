@@ -1,17 +1,30 @@
 -- What the commands start, accept, send, receive and fill do to an end, by what the operations are said to do.
-use Rattle.std.specs.Prelude.{Bool, ◌||◌, cond, List, ◌++◌, ◌≡◌, ℕ, ◌+◌, ◌-◌, leb, eqb, length, take, drop, replicate}
+use Rattle.std.specs.Prelude.{Bool, ◌||◌, cond, List, ◌++◌, ◌≡◌, ℕ, ◌+◌, ◌-◌, ◌≤◌, leb, eqb, length, take, drop, replicate, Result}
 use Rattle.text.specs.Text.{written}
+use Rattle.flit_number.specs.declared.FlitCount.{FlitCount}
+use Rattle.end_state.specs.declared.Refusal.{Refusal}
 use Rattle.end_state.specs.State.{start}
 use Rattle.accept_verdict.specs.Admission.{flits_of}
 use Rattle.accept.specs.Accept.{accept, accept_store}
 use Rattle.send.specs.Send.{send, send_output}
 use Rattle.receive.specs.Receive.{receive, receive_hold}
+use Rattle.receive_answer.specs.declared.Answer.{Answer}
 use Rattle.ticket.specs.Ticket.{TicketCall, nothing, ticket_after}
 use Rattle.drive_side.specs.Side.{after_call}
 use Rattle.drive_side.specs.declared.Side.{Side}
-use Rattle.drive_call.specs.declared.SideTook.{SideTook}
-use Rattle.drive_call.specs.declared.SideSent.{SideSent}
-use Rattle.drive_call.specs.declared.SideReceived.{SideReceived}
+
+-- ---- an end
+
+-- an end with its ticket, and its store and its hold, whole
+pub record Kept : Type 0 where
+  pub side : Side
+  pub store : List ℕ
+  pub hold : List ℕ
+
+-- what a call leaves, and what it answers
+pub record Called (A : Type 0) : Type 0 where
+  pub kept : Kept
+  pub answer : A
 
 -- ---- buffers
 
@@ -31,51 +44,72 @@ Clean kept buffer = drop kept buffer ≡ repeated (length buffer - kept) 0
 unfoldable pub kept_after : List ℕ → List ℕ → List ℕ
 kept_after ticket_after kept = take (length kept) ticket_after ++ drop (length ticket_after) kept
 
+-- the store is the first bytes of its buffer, and the hold the first 576 of its own
+abbrev pub kept_in : Side → List ℕ → List ℕ → Kept
+kept_in s store hold = record { side = s; store = take s.kept store; hold = take 576 hold }
+
+-- a side in its buffers: what is kept and what is lent is inside them, and every byte of the buffers past what is kept is 0
+pub record Buffered (s : Side) (store hold : List ℕ) : Type 0 where
+  pub kept : s.kept ≤ length store
+  pub store_lent : s.store ≤ length store
+  pub hold_kept : 576 ≤ length hold
+  pub hold_lent : s.hold ≤ length hold
+  pub store_clean : Clean s.kept store
+  pub hold_clean : Clean 576 hold
+
 -- ---- the operations
 
 -- a store of so many zeros, a hold of 576 and a ticket of zeros, both buffers lent at full length
-unfoldable pub side_started : ℕ → SideTook
+unfoldable pub side_started : ℕ → Called (Result (Unit {0}) Refusal)
 side_started bytes =
     record {
-      side = record { end = (start bytes).end; kept = bytes; store = bytes; hold = 576; ticket = nothing };
-      verdict = (start bytes).verdict;
+      kept = record {
+        side = record { end = (start bytes).end; kept = bytes; store = bytes; hold = 576; ticket = nothing };
+        store = repeated bytes 0;
+        hold = repeated 576 0;
+      };
+      answer = (start bytes).answer;
     }
 
-unfoldable pub accepts : Side → List ℕ → List ℕ → SideTook
-accepts s store unit =
+unfoldable pub accepts : Kept → List ℕ → Called (Result (Unit {0}) Refusal)
+accepts k unit =
     record {
-      side =
-          after_call s (accept s.end (lent_bytes s.store store) unit).end
-          (ticket_after s.ticket (TicketCall.accepts (accept s.end (lent_bytes s.store store) unit).verdict (flits_of unit)));
-      verdict = (accept s.end (lent_bytes s.store store) unit).verdict;
+      kept = record {
+        side = after_call k.side (accept k.side.end (lent_bytes k.side.store k.store) unit).end
+            (ticket_after k.side.ticket (TicketCall.accepts (accept k.side.end (lent_bytes k.side.store k.store) unit).answer (flits_of unit)));
+        store = kept_after (accept_store k.side.end (lent_bytes k.side.store k.store) unit) k.store;
+        hold = k.hold;
+      };
+      answer = (accept k.side.end (lent_bytes k.side.store k.store) unit).answer;
     }
-
-unfoldable pub accepts_store : Side → List ℕ → List ℕ → List ℕ
-accepts_store s store unit = kept_after (accept_store s.end (lent_bytes s.store store) unit) store
 
 -- each byte of the output is 165 before the call
-unfoldable pub sends : Side → List ℕ → ℕ → SideSent
-sends s store output =
+unfoldable pub sends : Kept → ℕ → Called (Result FlitCount Refusal)
+sends k output =
     record {
-      side = after_call s (send s.end (lent_bytes s.store store) output).end s.ticket;
-      answer = (send s.end (lent_bytes s.store store) output).answer;
+      kept = record {
+        side = after_call k.side (send k.side.end (lent_bytes k.side.store k.store) output).end k.side.ticket;
+        store = k.store;
+        hold = k.hold;
+      };
+      answer = (send k.side.end (lent_bytes k.side.store k.store) output).answer;
     }
 
-unfoldable pub sends_output : Side → List ℕ → ℕ → ℕ → ℕ → List ℕ
-sends_output s store output errors information =
-    send_output s.end (lent_bytes s.store store) (repeated output 165) errors information
+unfoldable pub sends_output : Kept → ℕ → ℕ → ℕ → List ℕ
+sends_output k output errors information =
+    send_output k.side.end (lent_bytes k.side.store k.store) (repeated output 165) errors information
 
-unfoldable pub receives : Side → List ℕ → List ℕ → List ℕ → SideReceived
-receives s store hold flit =
+unfoldable pub receives : Kept → List ℕ → Called Answer
+receives k flit =
     record {
-      side =
-          after_call s (receive s.end (lent_bytes s.store store) (lent_bytes s.hold hold) flit).end
-          (ticket_after s.ticket (TicketCall.receives (receive s.end (lent_bytes s.store store) (lent_bytes s.hold hold) flit).answer));
-      answer = (receive s.end (lent_bytes s.store store) (lent_bytes s.hold hold) flit).answer;
+      kept = record {
+        side = after_call k.side (receive k.side.end (lent_bytes k.side.store k.store) (lent_bytes k.side.hold k.hold) flit).end
+            (ticket_after k.side.ticket (TicketCall.receives (receive k.side.end (lent_bytes k.side.store k.store) (lent_bytes k.side.hold k.hold) flit).answer));
+        store = k.store;
+        hold = kept_after (receive_hold k.side.end (lent_bytes k.side.store k.store) (lent_bytes k.side.hold k.hold) flit) k.hold;
+      };
+      answer = (receive k.side.end (lent_bytes k.side.store k.store) (lent_bytes k.side.hold k.hold) flit).answer;
     }
-
-unfoldable pub receives_hold : Side → List ℕ → List ℕ → List ℕ → List ℕ
-receives_hold s store hold flit = kept_after (receive_hold s.end (lent_bytes s.store store) (lent_bytes s.hold hold) flit) hold
 
 -- ---- fill
 
@@ -83,6 +117,14 @@ receives_hold s store hold flit = kept_after (receive_hold s.end (lent_bytes s.s
 unfoldable pub fill_fits : ℕ → ℕ → ℕ → Bool
 fill_fits kept offset bytes = eqb bytes 0 || leb (offset + bytes) kept
 
--- the store after it: the bytes in their place, or as it was
-abbrev pub fills_store : ℕ → List ℕ → ℕ → List ℕ → List ℕ
-fills_store kept store offset bytes = cond (fill_fits kept offset (length bytes)) (written store offset bytes) store
+-- the bytes in their place in the store, or all as it was
+unfoldable pub fills : Kept → ℕ → List ℕ → Called Bool
+fills k offset bytes =
+    record {
+      kept = record {
+        side = k.side;
+        store = cond (fill_fits k.side.kept offset (length bytes)) (written k.store offset bytes) k.store;
+        hold = k.hold;
+      };
+      answer = fill_fits k.side.kept offset (length bytes);
+    }

@@ -2,59 +2,51 @@
 
 #![tactic(auto)]
 
-ghost use Rattle.std.specs.Prelude.{◌≡◌, ◌+◌, ◌*◌, ◌≤◌, length};
-ghost use Rattle.text.specs.Text.{Puts};
+ghost use Rattle.std.specs.Prelude.{◌≡◌, ◌*◌, ◌≤◌, length};
+ghost use Rattle.text.specs.Text.{Room, Appends};
 ghost use Rattle.send.specs.Send.{flits_written};
-ghost use Rattle.drive_head.specs.Heads.{untouched as untouched_of, spill, send_head, receive_head};
+ghost use Rattle.drive_head.specs.Heads.{untouched as untouched_of, send_head, receive_head};
 
+use end_state::Refusal;
+use flit_number::FlitCount;
 use receive_answer::Answer;
+use text::Writer;
 
 // Flits written, and their bytes; then whether a byte past them is no longer 165.
-pub fn put_send(out: &mut [u8], at: usize, answer: send::Answer, output: &[u8]) -> usize
-    requires { (length output.now ≤ 2000) × (flits_written answer * 64 ≤ length output.now) × (at + 4200 ≤ length out.old) }
-    ensures { Puts out.old at (send_head answer output.now) result out.new }
+pub fn put_send(writer: &mut Writer, answer: Result<FlitCount, Refusal>, output: &[u8])
+    requires { (length output.now ≤ 2000) × (flits_written answer * 64 ≤ length output.now) × Room writer.old 4200 }
+    ensures { Appends writer.old (send_head answer output.now) writer.new }
 {
-    let flits = send::flits_of(answer);
-    let bytes = flits * 64;
-    let numbers = [send::refusal_of(answer), flits as u64];
-    let word = text::put_form(out, at, b"send refuse=# flits=# out=", &numbers);
-    let written = text_hex::put_hex(out, word, &output[0..bytes]);
-    put_spill(out, written, &output[bytes..])
+    let flits = flits_of(answer);
+    let numbers = [end_state::verdict_number(answer), flits as u64];
+    let (sent, rest) = output.split_at(flits * 64);
+    writer.put_form(b"send refuse=# flits=# out=", &numbers);
+    text_hex::put_hex(writer, sent);
+    if !untouched(rest) {
+        writer.put(b" spill");
+    }
+}
+
+fn flits_of(answer: Result<FlitCount, Refusal>) -> usize
+    ensures { result ≡ flits_written answer }
+{
+    answer.map_or(0, |flits| flits.0)
 }
 
 // The answer's word, and the data flits that it delivered.
-pub fn put_receive(out: &mut [u8], at: usize, answer: Answer) -> usize
-    requires { at + 200 ≤ length out.old }
-    ensures { Puts out.old at (receive_head answer) result out.new }
+pub fn put_receive(writer: &mut Writer, answer: Answer)
+    requires { Room writer.old 200 }
+    ensures { Appends writer.old (receive_head answer) writer.new }
 {
     let told = receive_answer::told_by(answer);
-    let numbers = [told.refusal];
-    let word = text::put_form(out, at, b"receive refuse=# answer=", &numbers);
-    let after = text_word::put_answer(out, word, answer);
-    text::put_field(out, after, b" data=", told.delivered as u64)
-}
-
-fn put_spill(out: &mut [u8], at: usize, rest: &[u8]) -> usize
-    requires { at + 6 ≤ length out.old }
-    ensures { Puts out.old at (spill rest.now) result out.new }
-{
-    if untouched(rest) {
-        at
-    } else {
-        text::put(out, at, b" spill")
-    }
+    writer.put_form(b"receive refuse=# answer=", &[told.refusal]);
+    writer.put(text_word::answer_word(answer));
+    writer.put_field(b" data=", told.delivered as u64);
 }
 
 // Whether each byte is 165.
 fn untouched(bytes: &[u8]) -> bool
     ensures { result ≡ untouched_of bytes.now }
 {
-    let mut i = 0;
-    while i < bytes.len() {
-        if bytes[i] != 165 {
-            return false;
-        }
-        i += 1;
-    }
-    true
+    bytes.iter().all(|&byte| byte == 165)
 }

@@ -4,38 +4,39 @@ use mathlib.Core.Path.{◌≡◌, refl}
 use Prim.Native.Nat.{ℕ, ◌*◌, ◌≤◌}
 use native.Mathlib.Omega.{arith}
 use lib.ListN.{length, length-append}
-use Rattle.text.specs.Text.{ascii, decimal, written, key_value}
+use Rattle.text.specs.Text.{ascii, decimal, key_value}
 use Rattle.text.proofs.Laws.{length_decimal}
 use Rattle.drive_state.proofs.Laws.{state_short, ticket_short}
 use Rattle.drive_head.proofs.Laws.{send_head_short, receive_head_short}
 use Rattle.end_state.specs.Refusals.{previous_run}
 use Rattle.end_state.specs.declared.End.{End}
-use Rattle.end_state.specs.declared.Verdict.{Verdict}
-use Rattle.end_state.specs.declared.Verdict.TheVariants.{Refused, Admitted}
-use Rattle.end_state.proofs.Tests.{cond_either}
+use Rattle.end_state.specs.declared.Refusal.{Refusal}
+use Rattle.std.specs.Prelude.{Result, Ok, Err}
+use Rattle.std.proofs.lemmas.Bool.{cond_both}
 use Rattle.send.specs.Send.{send_verdict, sent_by, send, flits_written}
 use Rattle.send.proofs.Cases.{admitted}
 use Rattle.send.proofs.Bursts.{burst_length}
 use Rattle.drive_script.specs.declared.Command.{Command}
 use Rattle.drive_script.specs.declared.Command.TheVariants as command
-use Rattle.drive_call.specs.Sides.{lent_bytes, sends, sends_output, receives, fill_fits}
-use Rattle.drive_side.specs.declared.Side.{Side}
-use Rattle.drive_line.specs.Lines.{Kept, Did, stated, bad, start_line, accept_line, send_line, receive_line, poke_line, fill_line, lend_line, count_line, commanded}
+use Rattle.drive_call.specs.Sides.{Kept, lent_bytes, sends, sends_output, receives, fills}
+use Rattle.drive_line.specs.Lines.{Did, stated, bad, start_line, accept_line, send_line, receive_line, poke_line, fill_line, lend_line, count_line, commanded}
 
 -- ---- the flits written are inside the output, and few
 
-inside_by : (e : End) (store : List ℕ) (output : ℕ) (v : Verdict) → send_verdict e store output ≡ v
+inside_by : (e : End) (store : List ℕ) (output : ℕ) (v : Result (Unit {0}) Refusal) → send_verdict e store output ≡ v
     → (flits_written (sent_by v e (previous_run e store)).answer * 64 ≤ output) × (flits_written (sent_by v e (previous_run e store)).answer ≤ 10)
-inside_by e store output (Refused r) h = (omega arith, omega arith)
-inside_by e store output Admitted h =
+inside_by e store output (Err r) h = (omega arith, omega arith)
+inside_by e store output (Ok u) h =
     let a = admitted e store output h in
     let l = burst_length e store 0 0 a.its_store a.is_sound in
     (omega (arith, a.room, l.few), l.few)
 
-pub sent_inside : (s : Side) (store : List ℕ) (output : ℕ)
-    → (flits_written (sends s store output).answer * 64 ≤ output) × (flits_written (sends s store output).answer ≤ 10)
+pub sent_inside : (k : Kept) (output : ℕ)
+    → (flits_written (sends k output).answer * 64 ≤ output) × (flits_written (sends k output).answer ≤ 10)
 unfolding sends send
-sent_inside s store output = inside_by s.end (lent_bytes s.store store) output (send_verdict s.end (lent_bytes s.store store) output) refl
+sent_inside k output =
+    let store = lent_bytes k.side.store k.store in
+    inside_by k.side.end store output (send_verdict k.side.end store output) refl
 
 -- ---- a whole line
 
@@ -57,14 +58,11 @@ did_short k (command.Start n) bytes = stated_short _ _ (refuse_short (ascii "sta
 did_short k (command.Accept n) bytes = stated_short _ _ (refuse_short (ascii "accept refuse=") _ (omega arith))
 did_short k (command.Send n errors information) bytes =
     stated_short _ _
-    (send_head_short (sends k.side k.store n).answer (sends_output k.side k.store n errors information) (omega (arith, (sent_inside k.side k.store n).1)))
-did_short k (command.Receive n) bytes =
-    let r = (receives k.side k.store k.hold bytes).answer in
-    stated_short _ _ (omega (arith, receive_head_short r))
+    (send_head_short (sends k n).answer (sends_output k n errors information) (omega (arith, (sent_inside k n).1)))
+did_short k (command.Receive n) bytes = stated_short _ _ (omega (arith, receive_head_short (receives k bytes).answer))
 did_short k (command.Poke f v) bytes = stated_short _ _ (refuse_short (ascii "poke refuse=") 0 (omega arith))
 did_short k (command.Fill offset n) bytes =
-    cond_either (λ (d : Did). length d.line ≤ 8192) (fill_fits k.side.kept offset (length bytes))
-    (stated (key_value "fill refuse=" 0) (record { side = k.side; store = written k.store offset bytes; hold = k.hold })) (bad k)
+    cond_both (fills k offset bytes).answer (stated (key_value "fill refuse=" 0) (fills k offset bytes).kept) (bad k) (λ (d : Did). length d.line ≤ 8192)
     (λ _. stated_short _ _ (refuse_short (ascii "fill refuse=") 0 (omega arith)))
     (λ _. bad_short k)
 did_short k (command.Lend store hold) bytes = stated_short _ _ (refuse_short (ascii "lend refuse=") 0 (omega arith))

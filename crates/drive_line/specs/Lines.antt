@@ -1,6 +1,6 @@
 -- What each command of a script does to an end, and the line that it prints.
-use Rattle.std.specs.Prelude.{cond, List, ◌++◌, ◌≡◌, ℕ, ◌≤◌, length, take}
-use Rattle.text.specs.Text.{ascii, key_value, written}
+use Rattle.std.specs.Prelude.{cond, List, ◌++◌, ℕ, take}
+use Rattle.text.specs.Text.{ascii, key_value}
 use Rattle.drive_state.specs.Show.{state_text, ticket_text}
 use Rattle.drive_head.specs.Heads.{send_head, receive_head}
 use Rattle.end_state.specs.State.{verdict_number}
@@ -11,15 +11,7 @@ use Rattle.drive_script.specs.declared.Command.{Command}
 use Rattle.drive_script.specs.declared.Command.TheVariants as command
 use Rattle.drive_set.specs.Settings.{side_poked, side_lent, side_counted}
 use Rattle.drive_side.specs.declared.Side.{Side}
-use Rattle.drive_call.specs.Sides.{Clean, repeated, side_started, accepts, accepts_store, sends, sends_output, receives, receives_hold, fill_fits}
-
--- ---- an end
-
--- an end with its ticket, and its store and its hold, whole
-pub record Kept : Type 0 where
-  pub side : Side
-  pub store : List ℕ
-  pub hold : List ℕ
+use Rattle.drive_call.specs.Sides.{Kept, side_started, accepts, sends, sends_output, receives, fills}
 
 -- what a command leaves, and its line
 pub record Did : Type 0 where
@@ -44,37 +36,23 @@ bad k = record { kept = k; line = bad_line }
 -- ---- the commands: OP refuse=N [flits=K out=HEX] [answer=WORD data=K] STATE
 
 unfoldable pub start_line : ℕ → Did
-start_line bytes =
-    stated (key_value "start refuse=" (verdict_number (side_started bytes).verdict))
-    (record { side = (side_started bytes).side; store = repeated bytes 0; hold = repeated 576 0 })
+start_line bytes = stated (key_value "start refuse=" (verdict_number (side_started bytes).answer)) (side_started bytes).kept
 
 unfoldable pub accept_line : Kept → List ℕ → Did
-accept_line k unit =
-    stated (key_value "accept refuse=" (verdict_number (accepts k.side k.store unit).verdict))
-    (record { side = (accepts k.side k.store unit).side; store = accepts_store k.side k.store unit; hold = k.hold })
+accept_line k unit = stated (key_value "accept refuse=" (verdict_number (accepts k unit).answer)) (accepts k unit).kept
 
 unfoldable pub send_line : Kept → ℕ → ℕ → ℕ → Did
 send_line k output errors information =
-    stated (send_head (sends k.side k.store output).answer (sends_output k.side k.store output errors information))
-    (record { side = (sends k.side k.store output).side; store = k.store; hold = k.hold })
+    stated (send_head (sends k output).answer (sends_output k output errors information)) (sends k output).kept
 
 unfoldable pub receive_line : Kept → List ℕ → Did
-receive_line k flit =
-    stated (receive_head (receives k.side k.store k.hold flit).answer)
-    (record {
-      side = (receives k.side k.store k.hold flit).side;
-      store = k.store;
-      hold = receives_hold k.side k.store k.hold flit;
-    })
+receive_line k flit = stated (receive_head (receives k flit).answer) (receives k flit).kept
 
 unfoldable pub poke_line : Kept → EndField → ℕ → Did
 poke_line k f v = stated (key_value "poke refuse=" 0) (record { side = side_poked k.side f v; store = k.store; hold = k.hold })
 
 unfoldable pub fill_line : Kept → ℕ → List ℕ → Did
-fill_line k offset bytes =
-    cond (fill_fits k.side.kept offset (length bytes))
-    (stated (key_value "fill refuse=" 0) (record { side = k.side; store = written k.store offset bytes; hold = k.hold }))
-    (bad k)
+fill_line k offset bytes = cond (fills k offset bytes).answer (stated (key_value "fill refuse=" 0) (fills k offset bytes).kept) (bad k)
 
 unfoldable pub lend_line : Kept → ℕ → ℕ → Did
 lend_line k store hold = stated (key_value "lend refuse=" 0) (record { side = side_lent k.side store hold; store = k.store; hold = k.hold })
@@ -102,25 +80,3 @@ commanded k (command.Count key n) bytes = count_line k key n
 -- the bytes of HEX stand at the start of a buffer
 abbrev pub commanded_from : Kept → Command → List ℕ → Did
 commanded_from k c buffer = commanded k c (take (bytes_in c) buffer)
-
--- ---- what stands in the buffers
-
--- the store is the first bytes of its buffer, and the hold the first 576 of its own
-abbrev pub kept_in : Side → List ℕ → List ℕ → Kept
-kept_in s store hold = record { side = s; store = take s.kept store; hold = take 576 hold }
-
--- a side in its buffers: the store has at most 70,000 bytes, and at most so many are lent, and at most 2,000 of the hold; every byte of the
--- buffers past what is kept is 0
-pub record Buffered (s : Side) (store hold : List ℕ) : Type 0 where
-  pub kept : s.kept ≤ 70000
-  pub store_lent : s.store ≤ 70000
-  pub hold_lent : s.hold ≤ 2000
-  pub store_size : length store ≡ 70000
-  pub hold_size : length hold ≡ 2000
-  pub store_clean : Clean s.kept store
-  pub hold_clean : Clean 576 hold
-
--- what is to be kept stands in the buffers
-pub record Leaves (k : Kept) (s : Side) (store hold : List ℕ) : Type 0 where
-  pub kept : kept_in s store hold ≡ k
-  pub buffers : Buffered s store hold

@@ -1,274 +1,173 @@
-// One command: what it does to a side, and its line.
+// One command: what it does to an end in its buffers, and its line.
 
 #![tactic(auto)]
 
-ghost use Rattle.std.specs.Prelude.{◌≡◌, ◌++◌, ◌+◌, ◌≤◌, length};
-ghost use Rattle.crc.specs.Register.{table};
-ghost use Rattle.text.specs.Text.{decimal, Puts};
+ghost use Rattle.std.specs.Prelude.{◌≡◌, ◌++◌, ◌≤◌, length};
+ghost use Rattle.text.specs.Text.{decimal, Room, Appends};
 ghost use Rattle.drive_name.specs.Names.{most};
 ghost use Rattle.drive_script.specs.Script.{InRange};
 ghost use Rattle.drive_call.specs.Sides.{repeated};
-ghost use Rattle.drive_line.specs.Lines.{state_of, stated, bad_line, ticket_line, kept_in, Buffered, Leaves, commanded_from, start_line, accept_line, send_line, receive_line, poke_line, fill_line, lend_line, count_line};
+ghost use Rattle.drive_line.specs.Lines.{state_of, stated, bad_line, ticket_line, commanded_from, start_line, accept_line, send_line, receive_line, poke_line, fill_line, lend_line, count_line};
 
+use drive_call::BufferedEnd;
 use drive_name::{EndField, Key};
 use drive_script::Command;
-use drive_side::Side;
 use end_state::End;
+use text::Writer;
 
-// The side after a command, and the place after its line.
-#[derive(Clone, Copy)]
-pub struct Done {
-    pub side: Side,
-    pub at: usize,
-}
+// An end of a session: its store has at most 70,000 bytes, at most so many are lent, and at most 2,000 of the hold.
+pub type SessionEnd = BufferedEnd<70000, 2000>;
 
 // Does a command and prints its line. Its bytes are at the start of a buffer, which is used for the output of send and cleared after.
-pub fn run(
-    t: &[u64; 256],
-    side: Side,
-    command: Command,
-    store: &mut [u8],
-    hold: &mut [u8],
-    bytes: &mut [u8],
-    out: &mut [u8],
-    at: usize,
-) -> Done
-    requires { (t.now ≡ table) × Buffered side store.old hold.old × (length bytes.old ≡ 2000) × InRange command × (at + 8192 ≤ length out.old) }
-    ensures leaves { Leaves (commanded_from (kept_in side store.old hold.old) command bytes.old).kept result.side store.new hold.new }
-    ensures puts { Puts out.old at (commanded_from (kept_in side store.old hold.old) command bytes.old).line result.at out.new }
+pub fn run(end: &mut SessionEnd, command: Command, bytes: &mut [u8; 2000], writer: &mut Writer)
+    requires { InRange command × Room writer.old 8192 }
+    ensures kept_after { end.new ≡ (commanded_from end.old command bytes.old).kept }
+    ensures appends { Appends writer.old (commanded_from end.old command bytes.old).line writer.new }
     ensures bytes_after { bytes.new ≡ repeated 2000 0 }
 {
-    let done = answer(t, side, command, store, hold, bytes, out, at);
-    drive_call::clear(bytes, 0, 2000);
-    done
+    answer(end, command, bytes, writer);
+    bytes.fill(0);
 }
 
-fn answer(
-    t: &[u64; 256],
-    side: Side,
-    command: Command,
-    store: &mut [u8],
-    hold: &mut [u8],
-    bytes: &mut [u8],
-    out: &mut [u8],
-    at: usize,
-) -> Done
-    requires { (t.now ≡ table) × Buffered side store.old hold.old × (length bytes.old ≡ 2000) × InRange command × (at + 8192 ≤ length out.old) }
-    ensures leaves { Leaves (commanded_from (kept_in side store.old hold.old) command bytes.old).kept result.side store.new hold.new }
-    ensures puts { Puts out.old at (commanded_from (kept_in side store.old hold.old) command bytes.old).line result.at out.new }
+fn answer(end: &mut SessionEnd, command: Command, bytes: &mut [u8; 2000], writer: &mut Writer)
+    requires { InRange command × Room writer.old 8192 }
+    ensures kept_after { end.new ≡ (commanded_from end.old command bytes.old).kept }
+    ensures appends { Appends writer.old (commanded_from end.old command bytes.old).line writer.new }
 {
     match command {
-        Command::Bad => bad(side, out, at),
-        Command::Start(n) => start(side, store, hold, n, out, at),
-        Command::Accept(n) => accept(side, store, hold, &bytes[0..n], out, at),
-        Command::Send(n, errors, information) => send(
-            t,
-            side,
-            store,
-            hold,
-            &mut bytes[0..n],
-            errors,
-            information,
-            out,
-            at,
-        ),
-        Command::Receive(n) => receive(t, side, store, hold, &bytes[0..n], out, at),
-        Command::Poke(field, value) => poke(side, store, hold, field, value, out, at),
-        Command::Fill(offset, n) => fill(side, store, hold, offset, &bytes[0..n], out, at),
-        Command::Lend(lent, held) => lend(side, store, hold, lent, held, out, at),
-        Command::Ticket => ticket(side, out, at),
-        Command::Count(key, n) => count(side, store, hold, key, n, out, at),
+        Command::Bad => bad(writer),
+        Command::Start(n) => start(end, n, writer),
+        Command::Accept(n) => accept(end, &bytes[..n], writer),
+        Command::Send(n, errors, information) => {
+            send(end, &mut bytes[..n], errors, information, writer)
+        }
+        Command::Receive(n) => receive(end, &bytes[..n], writer),
+        Command::Poke(field, value) => poke(end, field, value, writer),
+        Command::Fill(offset, n) => fill(end, offset, &bytes[..n], writer),
+        Command::Lend(lent, held) => lend(end, lent, held, writer),
+        Command::Ticket => ticket(end, writer),
+        Command::Count(key, n) => count(end, key, n, writer),
     }
 }
 
 // A line that is no command changes nothing.
-fn bad(side: Side, out: &mut [u8], at: usize) -> Done
-    requires { at + 8192 ≤ length out.old }
-    ensures side_value { result.side ≡ side }
-    ensures puts { Puts out.old at bad_line result.at out.new }
+fn bad(writer: &mut Writer)
+    requires { Room writer.old 8192 }
+    ensures { Appends writer.old bad_line writer.new }
 {
-    let next = text::put(out, at, b"bad\n");
-    Done {
-        side: side,
-        at: next,
-    }
+    writer.put(b"bad\n");
 }
 
 // Ticket prints the ticket and no state.
-fn ticket(side: Side, out: &mut [u8], at: usize) -> Done
-    requires { at + 8192 ≤ length out.old }
-    ensures side_value { result.side ≡ side }
-    ensures puts { Puts out.old at (ticket_line side) result.at out.new }
+fn ticket(end: &SessionEnd, writer: &mut Writer)
+    requires { Room writer.old 8192 }
+    ensures { Appends writer.old (ticket_line end.now.side) writer.new }
 {
-    let counts = side.ticket;
-    let next = drive_state::put_ticket(out, at, counts);
-    Done {
-        side: side,
-        at: next,
+    drive_state::put_ticket(writer, end.side.ticket);
+}
+
+fn start(end: &mut SessionEnd, bytes: usize, writer: &mut Writer)
+    requires { (bytes ≤ 70000) × Room writer.old 8192 }
+    ensures kept_after { end.new ≡ (start_line bytes).kept }
+    ensures appends { Appends writer.old (start_line bytes).line writer.new }
+{
+    let answer = end.start(bytes);
+    put_plain(
+        end,
+        b"start refuse=",
+        end_state::verdict_number(answer),
+        writer,
+    );
+}
+
+fn accept(end: &mut SessionEnd, unit: &[u8], writer: &mut Writer)
+    requires { Room writer.old 8192 }
+    ensures kept_after { end.new ≡ (accept_line end.old unit.now).kept }
+    ensures appends { Appends writer.old (accept_line end.old unit.now).line writer.new }
+{
+    let answer = end.accept(unit);
+    put_plain(
+        end,
+        b"accept refuse=",
+        end_state::verdict_number(answer),
+        writer,
+    );
+}
+
+fn send(end: &mut SessionEnd, output: &mut [u8], errors: u8, info: u64, writer: &mut Writer)
+    requires { (length output.old ≤ 2000) × Room writer.old 8192 }
+    ensures kept_after { end.new ≡ (send_line end.old (length output.old) errors info).kept }
+    ensures appends { Appends writer.old (send_line end.old (length output.old) errors info).line writer.new }
+{
+    let answer = end.send(output, errors, info);
+    drive_head::put_send(writer, answer, output);
+    put_state(end, writer);
+}
+
+fn receive(end: &mut SessionEnd, flit: &[u8], writer: &mut Writer)
+    requires { Room writer.old 8192 }
+    ensures kept_after { end.new ≡ (receive_line end.old flit.now).kept }
+    ensures appends { Appends writer.old (receive_line end.old flit.now).line writer.new }
+{
+    let answer = end.receive(flit);
+    drive_head::put_receive(writer, answer);
+    put_state(end, writer);
+}
+
+fn poke(end: &mut SessionEnd, field: EndField, value: u64, writer: &mut Writer)
+    requires { (value ≤ most field) × Room writer.old 8192 }
+    ensures kept_after { end.new ≡ (poke_line end.old field value).kept }
+    ensures appends { Appends writer.old (poke_line end.old field value).line writer.new }
+{
+    end.side = drive_set::poke(end.side, field, value);
+    put_plain(end, b"poke refuse=", 0, writer);
+}
+
+fn fill(end: &mut SessionEnd, offset: u64, bytes: &[u8], writer: &mut Writer)
+    requires { Room writer.old 8192 }
+    ensures kept_after { end.new ≡ (fill_line end.old offset bytes.now).kept }
+    ensures appends { Appends writer.old (fill_line end.old offset bytes.now).line writer.new }
+{
+    if end.fill(offset, bytes) {
+        put_plain(end, b"fill refuse=", 0, writer);
+    } else {
+        bad(writer);
     }
 }
 
-fn start(
-    side: Side,
-    store: &mut [u8],
-    hold: &mut [u8],
-    bytes: usize,
-    out: &mut [u8],
-    at: usize,
-) -> Done
-    requires { Buffered side store.old hold.old × (bytes ≤ 70000) × (at + 8192 ≤ length out.old) }
-    ensures leaves { Leaves (start_line bytes).kept result.side store.new hold.new }
-    ensures puts { Puts out.old at (start_line bytes).line result.at out.new }
+fn lend(end: &mut SessionEnd, lent: usize, held: usize, writer: &mut Writer)
+    requires { (lent ≤ 70000) × (held ≤ 2000) × Room writer.old 8192 }
+    ensures kept_after { end.new ≡ (lend_line end.old lent held).kept }
+    ensures appends { Appends writer.old (lend_line end.old lent held).line writer.new }
 {
-    let took = drive_call::start(side.kept, store, hold, bytes);
-    let verdict = took.verdict;
-    let number = end_state::verdict_number(verdict);
-    put_plain(out, at, b"start refuse=", number, took.side, store, hold)
+    end.side = drive_set::lend(end.side, lent, held);
+    put_plain(end, b"lend refuse=", 0, writer);
 }
 
-fn accept(side: Side, store: &mut [u8], hold: &[u8], unit: &[u8], out: &mut [u8], at: usize) -> Done
-    requires { Buffered side store.old hold.now × (at + 8192 ≤ length out.old) }
-    ensures leaves { Leaves (accept_line (kept_in side store.old hold.now) unit.now).kept result.side store.new hold.now }
-    ensures puts { Puts out.old at (accept_line (kept_in side store.old hold.now) unit.now).line result.at out.new }
+fn count(end: &mut SessionEnd, key: Key, n: u32, writer: &mut Writer)
+    requires { Room writer.old 8192 }
+    ensures kept_after { end.new ≡ (count_line end.old key n).kept }
+    ensures appends { Appends writer.old (count_line end.old key n).line writer.new }
 {
-    let took = drive_call::accept(side, store, unit);
-    let verdict = took.verdict;
-    let number = end_state::verdict_number(verdict);
-    put_plain(out, at, b"accept refuse=", number, took.side, store, hold)
-}
-
-fn send(
-    t: &[u64; 256],
-    side: Side,
-    store: &[u8],
-    hold: &[u8],
-    output: &mut [u8],
-    errors: u8,
-    info: u64,
-    out: &mut [u8],
-    at: usize,
-) -> Done
-    requires { (t.now ≡ table) × Buffered side store.now hold.now × (length output.old ≤ 2000) × (at + 8192 ≤ length out.old) }
-    ensures leaves { Leaves (send_line (kept_in side store.now hold.now) (length output.old) errors info).kept result.side store.now hold.now }
-    ensures puts { Puts out.old at (send_line (kept_in side store.now hold.now) (length output.old) errors info).line result.at out.new }
-{
-    let sent = drive_call::send(t, side, store, output, errors, info);
-    let answer = sent.answer;
-    let head = drive_head::put_send(out, at, answer, output);
-    put_side(out, head, sent.side, store, hold)
-}
-
-fn receive(
-    t: &[u64; 256],
-    side: Side,
-    store: &[u8],
-    hold: &mut [u8],
-    flit: &[u8],
-    out: &mut [u8],
-    at: usize,
-) -> Done
-    requires { (t.now ≡ table) × Buffered side store.now hold.old × (at + 8192 ≤ length out.old) }
-    ensures leaves { Leaves (receive_line (kept_in side store.now hold.old) flit.now).kept result.side store.now hold.new }
-    ensures puts { Puts out.old at (receive_line (kept_in side store.now hold.old) flit.now).line result.at out.new }
-{
-    let received = drive_call::receive(t, side, store, hold, flit);
-    let answer = received.answer;
-    let head = drive_head::put_receive(out, at, answer);
-    put_side(out, head, received.side, store, hold)
-}
-
-fn poke(
-    side: Side,
-    store: &[u8],
-    hold: &[u8],
-    field: EndField,
-    value: u64,
-    out: &mut [u8],
-    at: usize,
-) -> Done
-    requires { Buffered side store.now hold.now × (value ≤ most field) × (at + 8192 ≤ length out.old) }
-    ensures leaves { Leaves (poke_line (kept_in side store.now hold.now) field value).kept result.side store.now hold.now }
-    ensures puts { Puts out.old at (poke_line (kept_in side store.now hold.now) field value).line result.at out.new }
-{
-    let after = drive_set::poke(side, field, value);
-    put_plain(out, at, b"poke refuse=", 0, after, store, hold)
-}
-
-fn fill(
-    side: Side,
-    store: &mut [u8],
-    hold: &[u8],
-    offset: u64,
-    bytes: &[u8],
-    out: &mut [u8],
-    at: usize,
-) -> Done
-    requires { Buffered side store.old hold.now × (at + 8192 ≤ length out.old) }
-    ensures leaves { Leaves (fill_line (kept_in side store.old hold.now) offset bytes.now).kept result.side store.new hold.now }
-    ensures puts { Puts out.old at (fill_line (kept_in side store.old hold.now) offset bytes.now).line result.at out.new }
-{
-    let inside = drive_call::fill(side.kept, store, offset, bytes);
-    if !inside {
-        return bad(side, out, at);
-    }
-    put_plain(out, at, b"fill refuse=", 0, side, store, hold)
-}
-
-fn lend(
-    side: Side,
-    store: &[u8],
-    hold: &[u8],
-    lent: usize,
-    held: usize,
-    out: &mut [u8],
-    at: usize,
-) -> Done
-    requires { Buffered side store.now hold.now × (lent ≤ 70000) × (held ≤ 2000) × (at + 8192 ≤ length out.old) }
-    ensures leaves { Leaves (lend_line (kept_in side store.now hold.now) lent held).kept result.side store.now hold.now }
-    ensures puts { Puts out.old at (lend_line (kept_in side store.now hold.now) lent held).line result.at out.new }
-{
-    let after = drive_set::lend(side, lent, held);
-    put_plain(out, at, b"lend refuse=", 0, after, store, hold)
-}
-
-fn count(side: Side, store: &[u8], hold: &[u8], key: Key, n: u32, out: &mut [u8], at: usize) -> Done
-    requires { Buffered side store.now hold.now × (at + 8192 ≤ length out.old) }
-    ensures leaves { Leaves (count_line (kept_in side store.now hold.now) key n).kept result.side store.now hold.now }
-    ensures puts { Puts out.old at (count_line (kept_in side store.now hold.now) key n).line result.at out.new }
-{
-    let after = drive_set::count(side, key, n);
-    put_plain(out, at, b"count refuse=", 0, after, store, hold)
+    end.side = drive_set::count(end.side, key, n);
+    put_plain(end, b"count refuse=", 0, writer);
 }
 
 // The command, the number of its refusal, and the state.
-fn put_plain(
-    out: &mut [u8],
-    at: usize,
-    word: &[u8],
-    refuse: u64,
-    side: Side,
-    store: &[u8],
-    hold: &[u8],
-) -> Done
-    requires { Buffered side store.now hold.now × (length word.now ≤ 20) × (at + 8192 ≤ length out.old) }
-    ensures leaves { Leaves (stated (word.now ++ decimal refuse) (kept_in side store.now hold.now)).kept result.side store.now hold.now }
-    ensures puts { Puts out.old at (stated (word.now ++ decimal refuse) (kept_in side store.now hold.now)).line result.at out.new }
+fn put_plain(end: &SessionEnd, word: &[u8], refuse: u64, writer: &mut Writer)
+    requires { (length word.now ≤ 20) × Room writer.old 8192 }
+    ensures { Appends writer.old (stated (word.now ++ decimal refuse) end.now).line writer.new }
 {
-    let head = text::put_field(out, at, word, refuse);
-    put_side(out, head, side, store, hold)
+    writer.put_field(word, refuse);
+    put_state(end, writer);
 }
 
 // The state, with the kept buffers, after what comes before it.
-fn put_side(out: &mut [u8], at: usize, side: Side, store: &[u8], hold: &[u8]) -> Done
-    requires { Buffered side store.now hold.now × (at + 1024 ≤ length out.old) }
-    ensures leaves { Leaves (kept_in side store.now hold.now) result.side store.now hold.now }
-    ensures puts { Puts out.old at (state_of (kept_in side store.now hold.now)) result.at out.new }
+fn put_state(end: &SessionEnd, writer: &mut Writer)
+    requires { Room writer.old 1024 }
+    ensures { Appends writer.old (state_of end.now) writer.new }
 {
-    let kept = side.kept;
-    let held = End::HOLD;
-    let next = drive_state::put_state(out, at, side.end, &store[0..kept], &hold[0..held]);
-    Done {
-        side: side,
-        at: next,
-    }
+    let store = &end.store[..end.side.kept];
+    let hold = &end.hold[..End::HOLD];
+    drive_state::put_state(writer, end.side.end, store, hold);
 }

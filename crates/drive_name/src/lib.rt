@@ -2,9 +2,8 @@
 
 #![tactic(auto)]
 
-ghost use Rattle.std.specs.Prelude.{◌≡◌};
-ghost use Rattle.drive_token.specs.Tokens.{tokens as tokens_of};
-ghost use Rattle.drive_name.specs.Names.{word_place, end_of, field_of, most as most_of, key_of};
+ghost use Rattle.std.specs.Prelude.{◌≡◌, map};
+ghost use Rattle.drive_name.specs.Names.{beside, end_of, field_of, most as most_of, key_of};
 
 // The end that a command is for.
 #[derive(Clone, Copy)]
@@ -47,130 +46,87 @@ pub enum Key {
     Downs,
 }
 
-// The end, the field or the count that a token names, if any.
-#[derive(Clone, Copy)]
-pub enum EndNamed {
-    Known(Which),
-    Unknown,
-}
-
-#[derive(Clone, Copy)]
-pub enum FieldNamed {
-    Known(EndField),
-    Unknown,
-}
-
-#[derive(Clone, Copy)]
-pub enum KeyNamed {
-    Known(Key),
-    Unknown,
-}
-
-pub fn end_named(token: &[u8]) -> EndNamed
+// The end that a token names, if it names one.
+#[tactic(auto, unfolding(crate::specs::Names::end_of))]
+pub fn end_named(token: &[u8]) -> Option<Which>
     ensures { result ≡ end_of token.now }
 {
-    let ends = [Which::A, Which::B];
-    let n = place(token, b"a b");
-    if n < 2 {
-        let named = ends[n];
-        EndNamed::Known(named)
-    } else {
-        EndNamed::Unknown
-    }
+    named(token, &[("a", Which::A), ("b", Which::B)])
 }
 
-pub fn field_named(token: &[u8]) -> FieldNamed
+// The field of the state that a token names.
+#[tactic(auto, unfolding(crate::specs::Names::field_of))]
+pub fn field_named(token: &[u8]) -> Option<EndField>
     ensures { result ≡ field_of token.now }
 {
     let fields = [
-        EndField::Capacity,
-        EndField::First,
-        EndField::Held,
-        EndField::Kept,
-        EndField::Oldest,
-        EndField::Cursor,
-        EndField::Sent,
-        EndField::Acked,
-        EndField::Wanted,
-        EndField::Position,
-        EndField::Owed,
-        EndField::Stalled,
-        EndField::Data,
-        EndField::Untold,
-        EndField::Mode,
-        EndField::Cause,
-        EndField::Discards,
-        EndField::Pending,
-        EndField::Info(0),
-        EndField::Info(1),
-        EndField::Info(2),
-        EndField::Info(3),
-        EndField::Info(4),
-        EndField::Info(5),
-        EndField::Info(6),
-        EndField::Info(7),
+        ("capacity", EndField::Capacity),
+        ("first", EndField::First),
+        ("held", EndField::Held),
+        ("kept", EndField::Kept),
+        ("oldest", EndField::Oldest),
+        ("cursor", EndField::Cursor),
+        ("sent", EndField::Sent),
+        ("acked", EndField::Acked),
+        ("wanted", EndField::Wanted),
+        ("position", EndField::Position),
+        ("owed", EndField::Owed),
+        ("stalled", EndField::Stalled),
+        ("data", EndField::Data),
+        ("untold", EndField::Untold),
+        ("mode", EndField::Mode),
+        ("cause", EndField::Cause),
+        ("discards", EndField::Discards),
+        ("pending", EndField::Pending),
+        ("info0", EndField::Info(0)),
+        ("info1", EndField::Info(1)),
+        ("info2", EndField::Info(2)),
+        ("info3", EndField::Info(3)),
+        ("info4", EndField::Info(4)),
+        ("info5", EndField::Info(5)),
+        ("info6", EndField::Info(6)),
+        ("info7", EndField::Info(7)),
     ];
-    let n = place(
-        token,
-        b"capacity first held kept oldest cursor sent acked wanted position owed stalled data untold mode cause discards pending info0 info1 info2 info3 info4 info5 info6 info7",
-    );
-    if n < 26 {
-        let named = fields[n];
-        FieldNamed::Known(named)
-    } else {
-        FieldNamed::Unknown
-    }
+    named(token, &fields)
 }
 
 // The largest value of a field.
+#[tactic(auto, unfolding(crate::specs::Names::most))]
 pub fn most(f: EndField) -> u64
     ensures { result ≡ most_of f }
 {
     match f {
         EndField::Info(_) => u64::MAX,
         EndField::Mode => 2,
-        EndField::Stalled => 1,
-        EndField::Pending => 1,
+        EndField::Stalled | EndField::Pending => 1,
         EndField::Cause => 255,
         _ => 65535,
     }
 }
 
-pub fn key_named(token: &[u8]) -> KeyNamed
+// The count that a token names.
+#[tactic(auto, unfolding(crate::specs::Names::key_of))]
+pub fn key_named(token: &[u8]) -> Option<Key>
     ensures { result ≡ key_of token.now }
 {
     let keys = [
-        Key::Accepted,
-        Key::Delivered,
-        Key::Damaged,
-        Key::Duplicate,
-        Key::Downs,
+        ("accepted", Key::Accepted),
+        ("delivered", Key::Delivered),
+        ("damaged", Key::Damaged),
+        ("duplicate", Key::Duplicate),
+        ("downs", Key::Downs),
     ];
-    let n = place(token, b"accepted delivered damaged duplicate downs");
-    if n < 5 {
-        let named = keys[n];
-        KeyNamed::Known(named)
-    } else {
-        KeyNamed::Unknown
-    }
+    named(token, &keys)
 }
 
-// The place of a token in a row of words, or their number where it is none of them.
-fn place(token: &[u8], row: &[u8]) -> usize
-    ensures { result ≡ word_place token.now (tokens_of row.now) }
+// What stands beside the word that a token is.
+fn named<T: Copy>(token: &[u8], table: &[(&str, T)]) -> Option<T>
+    ensures { result ≡ beside token.now (map (λ p. (p.0.now, p.1)) table.now) }
 {
-    let mut at = 0;
-    let mut n = 0;
-    loop {
-        let rest = &row[at..];
-        let end = drive_token::first_token(rest);
-        if drive_token::is(token, &rest[0..end]) {
-            return n;
+    for (word, value) in table {
+        if drive_token::is(token, word.as_bytes()) {
+            return Some(*value);
         }
-        n += 1;
-        if end == rest.len() {
-            return n;
-        }
-        at = at + end + 1;
     }
+    None
 }

@@ -1,14 +1,13 @@
 -- Two ends and the line so far: what one byte of the input does.
-use Rattle.std.specs.Prelude.{cond, List, [], ◌∷◌, ◌++◌, ◌≡◌, ℕ, ◌≤◌, leb, ltb, eqb, length, take, drop}
-use Rattle.text.specs.Text.{Puts}
+use Rattle.std.specs.Prelude.{cond, List, [], ◌∷◌, ◌++◌, ◌≡◌, ℕ, ◌≤◌, leb, ltb, eqb, length}
+use Rattle.text.specs.Text.{Appends, Room}
+use Rattle.text.specs.declared.Writer.{Writer}
 use Rattle.drive_name.specs.declared.Which.{Which}
 use Rattle.drive_name.specs.declared.Which.TheVariants as which
 use Rattle.drive_script.specs.Script.{line_of, bytes_of}
 use Rattle.drive_script.specs.declared.Command.{Command}
-use Rattle.drive_side.specs.declared.Side.{Side}
-use Rattle.drive_call.specs.Sides.{Clean}
-use Rattle.drive_line.specs.Lines.{Kept, bad_line, commanded, kept_in, Buffered}
-use Rattle.drive_pair.specs.declared.Pair.{Pair}
+use Rattle.drive_call.specs.Sides.{Kept, Clean}
+use Rattle.drive_line.specs.Lines.{bad_line, commanded}
 
 -- ---- two ends and a line
 
@@ -45,45 +44,13 @@ byte s c = cond (eqb c 10) (ended s) (record { state = record { a = s.a; b = s.b
 
 -- ---- what stands in the buffers
 
--- the end that a line names
-unfoldable pub side_of : Pair → Which → Side
-side_of d which.A = d.a
-side_of d which.B = d.b
+-- the line so far is inside its buffer; every byte past it is 0
+pub record LineBuffered (bytes : ℕ) (line : List ℕ) : Type 0 where
+  pub inside : bytes ≤ 4097
+  pub clean : Clean bytes line
 
--- both after its line
-unfoldable pub with_side : Pair → Which → Side → Pair
-with_side d which.A side = record { a = side; b = d.b; length = 0 }
-with_side d which.B side = record { a = d.a; b = side; length = 0 }
-
--- a buffer of both ends has a part of so many bytes for each, end a's first
-unfoldable pub part_of : Which → ℕ → List ℕ → List ℕ
-part_of which.A bytes both = take bytes both
-part_of which.B bytes both = drop bytes both
-
-unfoldable pub begins_at : Which → ℕ → ℕ
-begins_at which.A bytes = 0
-begins_at which.B bytes = bytes
-
--- the state of two ends in their buffers, and of the line in its own
-abbrev pub state_in : Pair → List ℕ → List ℕ → List ℕ → State
-state_in d stores holds line =
-    record {
-      a = kept_in d.a (part_of which.A 70000 stores) (part_of which.A 2000 holds);
-      b = kept_in d.b (part_of which.B 70000 stores) (part_of which.B 2000 holds);
-      line = take d.length line;
-    }
-
--- both ends are in their buffers, and the line in its own; every byte past what is kept is 0
-pub record Ready (d : Pair) (stores holds input : List ℕ) : Type 0 where
-  pub a : Buffered d.a (part_of which.A 70000 stores) (part_of which.A 2000 holds)
-  pub b : Buffered d.b (part_of which.B 70000 stores) (part_of which.B 2000 holds)
-  pub line : d.length ≤ 4097
-  pub line_size : length input ≡ 4097
-  pub line_clean : Clean d.length input
-
--- what a session leaves stands in the buffers, and its lines are put
-pub record Goes (s : PairStep) (d : Pair) (stores holds line out : List ℕ) (at next : ℕ) (after : List ℕ) : Type 0 where
-  pub state : state_in d stores holds line ≡ s.state
-  pub lines : Puts out at s.lines next after
-  pub ready : Ready d stores holds line
-  pub inside : next ≤ length after
+-- a state is left, and the lines are put
+pub record Goes (s : PairStep) (d : State) (before after : Writer) : Type 0 where
+  pub state : d ≡ s.state
+  pub lines : Appends before s.lines after
+  pub inside : Room after 0

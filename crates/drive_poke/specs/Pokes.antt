@@ -37,13 +37,8 @@ poked e (field.Info i) v = with_information (set e.information i v) e
 
 -- the ticket with a count set
 abbrev pub with_count : Ticket → Key → ℕ → Ticket
-with_count t key.Accepted n =
-    record { accepted = n; delivered = t.delivered; damaged = t.damaged; duplicate = t.duplicate; downs = t.downs }
-with_count t key.Delivered n =
-    record { accepted = t.accepted; delivered = n; damaged = t.damaged; duplicate = t.duplicate; downs = t.downs }
-with_count t key.Damaged n =
-    record { accepted = t.accepted; delivered = t.delivered; damaged = n; duplicate = t.duplicate; downs = t.downs }
-with_count t key.Duplicate n =
-    record { accepted = t.accepted; delivered = t.delivered; damaged = t.damaged; duplicate = n; downs = t.downs }
-with_count t key.Downs n =
-    record { accepted = t.accepted; delivered = t.delivered; damaged = t.damaged; duplicate = t.duplicate; downs = n }
+with_count t key.Accepted n = record t { accepted = n }
+with_count t key.Delivered n = record t { delivered = n }
+with_count t key.Damaged n = record t { damaged = n }
+with_count t key.Duplicate n = record t { duplicate = n }
+with_count t key.Downs n = record t { downs = n }

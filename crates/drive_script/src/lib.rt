@@ -5,12 +5,13 @@
 
 mod commands;
 
-ghost use Rattle.std.specs.Prelude.{◌∷◌, ◌≡◌, ◌≤◌, length};
-ghost use Rattle.drive_token.specs.Tokens.{tokens, last, over};
-ghost use Rattle.drive_script.specs.Script.{for_end, line_from, line_of, hex_carried, bytes_of};
+ghost use Rattle.std.specs.Prelude.{◌≡◌, ◌≤◌, length};
+ghost use Rattle.drive_token.specs.Tokens.{over};
+ghost use Rattle.drive_script.specs.Script.{line_named, line_of, bytes_of};
 
-use drive_name::{EndField, EndNamed, Key, Which};
+use drive_name::{EndField, Key, Which};
 
+// Bad is a command as the others are: it has a line of its own (bad_line of drive_line).
 // Accept, Receive and Fill hold the number of bytes of their HEX, which stand in the buffer lent for them.
 #[derive(Clone, Copy)]
 pub enum Command {
@@ -33,48 +34,27 @@ pub struct Line {
 }
 
 // Reads a line. The bytes of its HEX go to the first places of the buffer.
+#[tactic(auto, unfolding(crate::specs::Script::line_of))]
 pub fn read_line(line: &[u8], bytes: &mut [u8]) -> Line
     requires { 2000 ≤ length bytes.old }
     ensures value { result ≡ line_of line.now }
     ensures bytes_after { bytes.new ≡ over (bytes_of line.now) bytes.old }
 {
-    let n = drive_token::first_token(line);
-    if n < line.len() {
-        let from = n + 1;
-        after_word(&line[0..n], &line[from..], bytes)
-    } else {
-        for_end(Which::A, Command::Bad)
-    }
+    named_line(line, bytes).unwrap_or(Line {
+        which: Which::A,
+        command: Command::Bad,
+    })
 }
 
-// What follows the command's word: the end, and the arguments.
-fn after_word(op: &[u8], rest: &[u8], bytes: &mut [u8]) -> Line
+// A line that names an end, by its second token.
+fn named_line(line: &[u8], bytes: &mut [u8]) -> Option<Line>
     requires { 2000 ≤ length bytes.old }
-    ensures value { result ≡ line_from (op.now ∷ tokens rest.now) }
-    ensures bytes_after { bytes.new ≡ over (hex_carried (line_from (op.now ∷ tokens rest.now)).command (last (tokens rest.now))) bytes.old }
+    ensures value { result ≡ line_named line.now }
+    ensures bytes_after { bytes.new ≡ over (bytes_of line.now) bytes.old }
 {
-    let n = drive_token::first_token(rest);
-    let e = drive_name::end_named(&rest[0..n]);
-    match e {
-        EndNamed::Unknown => for_end(Which::A, Command::Bad),
-        EndNamed::Known(w) => {
-            if n < rest.len() {
-                let from = n + 1;
-                let c = commands::arguments(op, &rest[from..], bytes);
-                for_end(w, c)
-            } else {
-                let c = commands::no_argument(op);
-                for_end(w, c)
-            }
-        }
-    }
-}
-
-fn for_end(w: Which, c: Command) -> Line
-    ensures { result ≡ for_end w c }
-{
-    Line {
-        which: w,
-        command: c,
-    }
+    let (op, rest) = drive_token::cut(line);
+    let (end, arguments) = drive_token::cut(rest?);
+    let which = drive_name::end_named(end)?;
+    let command = commands::command(op, arguments, bytes).unwrap_or(Command::Bad);
+    Some(Line { which, command })
 }

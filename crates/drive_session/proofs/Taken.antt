@@ -1,15 +1,15 @@
 -- How much of an input is taken: at most all of it, at least a byte, and as much as a loop takes that goes on while a line has room.
-use mathlib.Core.Bool.{Bool, true, false, ◌&&◌}
+use mathlib.Core.Bool.{Bool, true, false}
 use mathlib.Core.List.{List}
 use mathlib.Core.Path.{◌≡◌, refl, ap, sym, subst, ◌∙◌}
 use Prim.Native.Nat.{ℕ, zero, suc, ◌+◌, ◌-◌, ◌≤◌, ◌<◌}
 use native.Mathlib.Nat.{add-suc, add-zero}
 use native.Mathlib.Numerals.{add-one}
 use native.Mathlib.Omega.{arith}
-use borrow.Author.Tests.{lt-ltb, le-leb, lt-leb, leb-true, leb-false}
-use lib.Dec.{ltb, leb}
+use borrow.Author.Tests.{le-leb, lt-leb, leb-true, leb-false}
+use lib.Dec.{leb}
 use lib.ListN.{length}
-use Rattle.end_state.proofs.Tests.{cond_true, cond_false}
+use Rattle.std.proofs.lemmas.Bool.{cond-true, cond-false}
 use Rattle.drive_pair.specs.Pair.{State}
 use Rattle.drive_session.specs.Drive.{session, taken}
 
@@ -18,12 +18,12 @@ use Rattle.drive_session.specs.Drive.{session, taken}
 taken_more : (s : State) (input : List ℕ) (room n : ℕ) → length (session s input (taken s input room n)).lines + 8192 ≤ room
     → taken s input room (suc n) ≡ suc (taken s input room n)
 unfolding taken
-taken_more s input room n h = cond_true _ _ _ (le-leb _ room h)
+taken_more s input room n h = cond-true _ _ _ (le-leb _ room h)
 
 taken_full : (s : State) (input : List ℕ) (room n : ℕ) → room < length (session s input (taken s input room n)).lines + 8192
     → taken s input room (suc n) ≡ taken s input room n
 unfolding taken
-taken_full s input room n h = cond_false _ _ _ (lt-leb _ room h)
+taken_full s input room n h = cond-false _ _ _ (lt-leb _ room h)
 
 -- ---- in n tries at most n bytes are taken, and at least one where there is room for a line at first
 
@@ -59,10 +59,6 @@ all_taken n s input room e = omega (arith, taken_most s input room (length input
 
 -- ---- a loop that takes a byte a turn: one turn more, and its end
 
-second : (a b : Bool) → a ≡ true → (a && b) ≡ false → b ≡ false
-second true b h k = k
-second false b h k = let z : false ≡ true = h in cc
-
 module _ (s : State) (input : List ℕ) (room n : ℕ) (e : n ≡ taken s input room n) where
   pub taken_next : length (session s input n).lines + 8192 ≤ room → n + 1 ≡ taken s input room (n + 1)
   taken_next h =
@@ -76,13 +72,5 @@ module _ (s : State) (input : List ℕ) (room n : ℕ) (e : n ≡ taken s input 
       let full = subst (λ (m : ℕ). room < length (session s input m).lines + 8192) same h in
       same ∙ sym (taken_full s input room (n + k) full) ∙ ap (taken s input room) (sym (add-suc n k))
 
-  pub taken_end : (at : ℕ) → at ≡ length (session s input n).lines → n ≤ length input → 8192 ≤ room
-      → (ltb n (length input) && leb at (room - 8192)) ≡ false → n ≡ taken s input room (length input)
-  taken_end at l h r t = by (leb (length input) n) refl
-    where
-      by : (b : Bool) → leb (length input) n ≡ b → n ≡ taken s input room (length input)
-      by true d = e ∙ ap (taken s input room) (let whole = leb-true (length input) n d in omega arith)
-      by false d =
-          let more = leb-false (length input) n d in
-          let none = leb-false at (room - 8192) (second (ltb n (length input)) (leb at (room - 8192)) (lt-ltb n (length input) more) t) in
-          taken_stays (omega arith) (length input - n) ∙ ap (taken s input room) (omega arith)
+  pub taken_end : room < length (session s input n).lines + 8192 → n ≤ length input → n ≡ taken s input room (length input)
+  taken_end h l = taken_stays h (length input - n) ∙ ap (taken s input room) (omega arith)

@@ -1,6 +1,7 @@
 -- Driving two ends from text: what the bytes of an input do, one after the other.
 use Rattle.std.specs.Prelude.{cond, List, [], ◌++◌, ℕ, zero, suc, ◌+◌, leb, eqb, length, get_or}
-use Rattle.drive_line.specs.Lines.{Kept, start_line}
+use Rattle.drive_call.specs.Sides.{Kept}
+use Rattle.drive_line.specs.Lines.{start_line}
 use Rattle.drive_pair.specs.Pair.{State, PairStep, ended, byte}
 
 -- before its first start an end is as after start E 0

@@ -1,88 +1,75 @@
-// Driving two ends of a link from text: from what is kept and input bytes to what is kept and output bytes. The program moves the
-// bytes.
+// Driving two ends of a link from text: from input bytes to output bytes. The program moves the bytes.
 
 #![tactic(auto)]
 
-ghost use Rattle.std.specs.Prelude.{◌≡◌, ◌≤◌, length};
-ghost use Rattle.crc.specs.Register.{table};
-ghost use Rattle.drive_pair.specs.Pair.{State, state_in, Ready, Goes};
-ghost use Rattle.drive_session.specs.Drive.{drive_begun, session, taken, finished};
+ghost use Rattle.std.specs.Prelude.{◌≡◌, ◌-◌, length};
+ghost use Rattle.text.specs.Text.{Room};
+ghost use Rattle.drive_call.specs.Sides.{repeated};
+ghost use Rattle.drive_pair.specs.Pair.{Goes};
+ghost use Rattle.drive_session.specs.Drive.{unstarted, drive_begun, session, taken, finished};
 
-use drive_pair::{Pair, Stepped};
-
-// What is kept after some bytes of the input, and the bytes of their lines.
-#[derive(Clone, Copy)]
-pub struct Fed {
-    pub pair: Pair,
-    pub used: usize,
-    pub bytes: usize,
-}
+use drive_call::BufferedEnd;
+use drive_line::SessionEnd;
+use drive_pair::Pair;
+use end_state::End;
+use text::Writer;
 
 // The room that a line needs.
 const ROOM: usize = 8192;
 
-// Two ends before their first start, and no line so far, whatever the buffers held.
-pub fn begin(stores: &mut [u8], holds: &mut [u8], line: &mut [u8]) -> Pair
-    requires { (length stores.old ≡ 140000) × (length holds.old ≡ 4000) × (length line.old ≡ 4097) }
-    ensures line_after { state_in result stores.new holds.new line.new ≡ drive_begun }
-    ensures ready { Ready result stores.new holds.new line.new }
+// Two ends before their first start, and no line so far.
+pub fn begin() -> Pair
+    ensures { result ≡ drive_begun }
 {
-    drive_call::clear(holds, 0, 4000);
-    let took = drive_call::start(140000, stores, holds, 0);
-    drive_call::clear(line, 0, 4097);
-    drive_pair::with_no_line(took.side, took.side)
+    let line = zeros();
+    Pair {
+        a: unstarted_end(),
+        b: unstarted_end(),
+        line,
+        length: 0,
+    }
 }
 
-// Takes bytes of the input until they are used up or no line more has room in the output.
-pub fn feed(
-    t: &[u64; 256],
-    d: Pair,
-    stores: &mut [u8],
-    holds: &mut [u8],
-    line: &mut [u8],
-    input: &[u8],
-    out: &mut [u8],
-) -> Fed
-    ghost s: { State }
-    requires line_value { state_in d stores.old holds.old line.old ≡ s }
-    requires t_value { (t.now ≡ table) × Ready d stores.old holds.old line.old × (8192 ≤ length out.old) }
-    ensures goes { Goes (session s input.now result.used) result.pair stores.new holds.new line.new out.old 0 result.bytes out.new }
-    ensures used_value { result.used ≡ taken s input.now (length out.old) (length input.now) }
+// Before its first start an end is as after a start with no bytes.
+fn unstarted_end() -> SessionEnd
+    ensures { result ≡ unstarted }
 {
-    let most = out.len() - ROOM;
-    let mut kept = d;
-    let mut at: usize = 0;
-    let mut used: usize = 0;
-    while (used < input.len()) & (at <= most) {
-        let c = input[used];
-        let stepped = drive_pair::step(t, kept, stores, holds, line, c, out, at);
-        kept = stepped.pair;
-        at = stepped.at;
-        used += 1;
+    let started = End::start(&[]);
+    let side = drive_side::fresh(0, started.end);
+    let store = zeros();
+    let hold = zeros();
+    BufferedEnd { side, store, hold }
+}
+
+fn zeros<const N: usize>() -> [u8; N]
+    ensures { result ≡ repeated N 0 }
+{
+    [0; N]
+}
+
+// Takes bytes of the input until they are used up or no line more has room in the output, and answers how many.
+pub fn feed(pair: &mut Pair, input: &[u8], writer: &mut Writer) -> usize
+    requires { Room writer.old 8192 }
+    ensures goes { Goes (session pair.old input.now result) pair.new writer.old writer.new }
+    ensures used_value { result ≡ taken pair.old input.now (length writer.old.out.now - writer.old.at) (length input.now) }
+{
+    let most = writer.out.len() - ROOM;
+    for (used, c) in input.iter().enumerate() {
+        if most < writer.at {
+            return used;
+        }
+        pair.step(*c, writer);
     }
-    Fed {
-        pair: kept,
-        used: used,
-        bytes: at,
-    }
+    input.len()
 }
 
 // The input has ended: prints the line of a last command without a line feed.
-pub fn finish(
-    t: &[u64; 256],
-    d: Pair,
-    stores: &mut [u8],
-    holds: &mut [u8],
-    line: &mut [u8],
-    out: &mut [u8],
-) -> Stepped
-    ghost s: { State }
-    requires line_value { state_in d stores.old holds.old line.old ≡ s }
-    requires t_value { (t.now ≡ table) × Ready d stores.old holds.old line.old × (8192 ≤ length out.old) }
-    ensures { Goes (finished s) result.pair stores.new holds.new line.new out.old 0 result.at out.new }
+pub fn finish(pair: &mut Pair, writer: &mut Writer)
+    requires { Room writer.old 8192 }
+    ensures { Goes (finished pair.old) pair.new writer.old writer.new }
 {
-    if d.length == 0 {
-        return Stepped { pair: d, at: 0 };
+    if pair.length == 0 {
+        return;
     }
-    drive_pair::end_line(t, d, stores, holds, line, out, 0)
+    pair.end_line(writer);
 }

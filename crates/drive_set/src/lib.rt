@@ -10,28 +10,36 @@ use drive_name::{EndField, Key};
 use drive_side::Side;
 
 // Sets a field of the state.
+#[tactic(auto, unfolding(crate::specs::Settings::side_poked))]
 pub fn poke(side: Side, field: EndField, value: u64) -> Side
     requires { value ≤ most field }
     ensures { result ≡ side_poked side field value }
 {
-    let end = drive_poke::poked(side.end, field, value);
-    drive_side::after_call(side, end, side.ticket)
+    Side {
+        end: drive_poke::poked(side.end, field, value),
+        ..side
+    }
 }
 
 // From now on calls get so many bytes of store and hold.
+#[tactic(auto, unfolding(crate::specs::Settings::side_lent))]
 pub fn lend(side: Side, store: usize, hold: usize) -> Side
     ensures { result ≡ side_lent side store hold }
 {
-    let mut next = side;
-    next.store = store;
-    next.hold = hold;
-    next
+    Side {
+        store,
+        hold,
+        ..side
+    }
 }
 
 // Sets a count of the ticket.
+#[tactic(auto, unfolding(crate::specs::Settings::side_counted))]
 pub fn count(side: Side, key: Key, n: u32) -> Side
     ensures { result ≡ side_counted side key n }
 {
-    let ticket = drive_poke::with_count(side.ticket, key, n);
-    drive_side::after_call(side, side.end, ticket)
+    Side {
+        ticket: drive_poke::with_count(side.ticket, key, n),
+        ..side
+    }
 }

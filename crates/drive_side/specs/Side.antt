@@ -5,4 +5,4 @@ use Rattle.drive_side.specs.declared.Side.{Side}
 
 -- a side with another state and ticket
 abbrev pub after_call : Side → End → Ticket → Side
-after_call s e t = record { end = e; kept = s.kept; store = s.store; hold = s.hold; ticket = t }
+after_call s e t = record s { end = e; ticket = t }

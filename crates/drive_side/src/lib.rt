@@ -23,13 +23,12 @@ pub struct Side {
 pub fn fresh(bytes: usize, end: End) -> Side
     ensures { result ≡ record { end = end; kept = bytes; store = bytes; hold = 576; ticket = nothing } }
 {
-    let zeros = ticket::fresh();
     Side {
-        end: end,
+        end,
         kept: bytes,
         store: bytes,
         hold: End::HOLD,
-        ticket: zeros,
+        ticket: ticket::fresh(),
     }
 }
 
@@ -38,10 +37,8 @@ pub fn after_call(side: Side, end: End, ticket: Ticket) -> Side
     ensures { result ≡ after_call side end ticket }
 {
     Side {
-        end: end,
-        kept: side.kept,
-        store: side.store,
-        hold: side.hold,
-        ticket: ticket,
+        end,
+        ticket,
+        ..side
     }
 }

@@ -1,32 +1,29 @@
-// The state of an end and the ticket on one line. Each function writes into a lent buffer from a place on and answers the place
-// after what it wrote.
+// The state of an end and the ticket on one line.
 
 #![tactic(auto)]
 
-ghost use Rattle.std.specs.Prelude.{◌++◌, ◌+◌, ◌≤◌, length};
-ghost use Rattle.text.specs.Text.{ascii, Puts};
+ghost use Rattle.std.specs.Prelude.{◌++◌};
+ghost use Rattle.text.specs.Text.{ascii, Room, Appends};
 ghost use Rattle.drive_state.specs.Show.{ring_part, sending_part, receiving_part, after_mode, state_text, ticket_text};
 
 use end_state::End;
+use text::Writer;
 use ticket::Ticket;
 
 // Writes the state of an end, a space before each key, and a line feed.
-pub fn put_state(out: &mut [u8], at: usize, e: End, store: &[u8], hold: &[u8]) -> usize
-    requires { at + 1024 ≤ length out.old }
-    ensures { Puts out.old at (state_text e store.now hold.now) result out.new }
+pub fn put_state(writer: &mut Writer, e: End, store: &[u8], hold: &[u8])
+    requires { Room writer.old 1024 }
+    ensures { Appends writer.old (state_text e store.now hold.now) writer.new }
 {
-    let mode = e.mode;
-    let word = put_numbers(out, at, e);
-    let rest = text_word::put_mode(out, word, mode);
-    let of_store = text_hex::adler(store);
-    let of_hold = text_hex::adler(hold);
-    put_rest(out, rest, e, of_store, of_hold)
+    put_numbers(writer, e);
+    writer.put(text_word::mode_word(e.mode));
+    put_rest(writer, e, text_hex::adler(store), text_hex::adler(hold));
 }
 
 // What comes before the mode's word.
-fn put_numbers(out: &mut [u8], at: usize, e: End) -> usize
-    requires { at + 512 ≤ length out.old }
-    ensures { Puts out.old at (ring_part e ++ sending_part e ++ receiving_part e ++ ascii " mode=") result out.new }
+fn put_numbers(writer: &mut Writer, e: End)
+    requires { Room writer.old 512 }
+    ensures { Appends writer.old (ring_part e ++ sending_part e ++ receiving_part e ++ ascii " mode=") writer.new }
 {
     let numbers = [
         e.capacity.0 as u64,
@@ -44,18 +41,16 @@ fn put_numbers(out: &mut [u8], at: usize, e: End) -> usize
         e.gathered.0 as u64,
         e.untold.0 as u64,
     ];
-    text::put_form(
-        out,
-        at,
+    writer.put_form(
         b" capacity=# first=# held=# kept=# oldest=# cursor=# sent=# acked=# wanted=# position=# owed=# stalled=# data=# untold=# mode=",
         &numbers,
-    )
+    );
 }
 
 // What comes after it: the information newest first, and the checksums of both buffers.
-fn put_rest(out: &mut [u8], at: usize, e: End, store: u64, hold: u64) -> usize
-    requires { at + 384 ≤ length out.old }
-    ensures { Puts out.old at (after_mode e store hold) result out.new }
+fn put_rest(writer: &mut Writer, e: End, store: u64, hold: u64)
+    requires { Room writer.old 384 }
+    ensures { Appends writer.old (after_mode e store hold) writer.new }
 {
     let numbers = [
         e.cause as u64,
@@ -72,23 +67,20 @@ fn put_rest(out: &mut [u8], at: usize, e: End, store: u64, hold: u64) -> usize
         store,
         hold,
     ];
-    text::put_form(
-        out,
-        at,
+    writer.put_form(
         b" cause=# discards=# pending=# info=#,#,#,#,#,#,#,# store=# hold=#\n",
         &numbers,
-    )
+    );
 }
 
 // Writes the line of a ticket.
-pub fn put_ticket(out: &mut [u8], at: usize, counts: Ticket) -> usize
-    requires { at + 256 ≤ length out.old }
-    ensures { Puts out.old at (ticket_text counts) result out.new }
+pub fn put_ticket(writer: &mut Writer, counts: Ticket)
+    requires { Room writer.old 256 }
+    ensures { Appends writer.old (ticket_text counts) writer.new }
 {
     ticket::put_counts(
-        out,
-        at,
+        writer,
         b"ticket refuse=0 accepted=# delivered=# damaged=# duplicate=# downs=#\n",
         counts,
-    )
+    );
 }

@@ -1,30 +1,21 @@
 -- Laws of numbers and of bytes in hexadecimal, digit by digit.
 use mathlib.Core.Bool.{Bool, true, false, ◌&&◌, cond}
 use mathlib.Core.List.{List, [], ◌∷◌, ◌++◌}
-use mathlib.Core.Path.{◌≡◌, refl, ap, ap₂, sym, ◌∙◌}
+use mathlib.Core.Path.{◌≡◌, refl, ap, sym, ◌∙◌}
+use Rattle.std.proofs.Common.{Some, None, unwrap_or}
 use Prim.Native.Nat.{ℕ, zero, suc, ◌+◌, ◌-◌, ◌*◌, ◌/◌, ◌%◌, ◌≤◌, ◌<◌}
 use native.Mathlib.Omega.{arith}
 use lib.Dec.{leb, ltb, eqb}
 use lib.ListN.{length, take, drop, set, get_or, length-take}
 use lib.Seq.{take_all, take-suc, drop-cons, append_snoc, set_at, take-append_seam}
-use borrow.Author.Tests.{ltb-true, lt-ltb, le-ltb, le-leb, lt-leb, leb-true, leb-false}
+use borrow.Author.Tests.{ltb-true, lt-ltb, le-leb, lt-leb, leb-true, leb-false}
 use Rattle.text.specs.Text.{ascii}
-use Rattle.end_state.proofs.Tests.{and_l, and_r, and_true, and_false_l, cond_true, cond_false}
-use Rattle.drive_token.specs.Tokens.{is_digit, all_digits, value_from, value, is_decimal, is_number, offset_value, nibble, all_below, all_hex, digit_pairs, is_bytes, pairs, same, over}
+use Rattle.std.proofs.lemmas.Bool.{and_from, and_left, and_right}
+use Rattle.end_state.proofs.Tests.{and_l, and_r}
+use Rattle.drive_token.specs.Tokens.{is_digit, all_digits, value_from, value, is_decimal, is_number, offset_value, nibble, all_hex, digit_pairs, is_bytes, pairs, same, over}
 use Rattle.drive_token.proofs.Cuts.{same_true}
 
-pub and_false_r : (a b : Bool) → b ≡ false → (a && b) ≡ false
-and_false_r true b h = h
-and_false_r false b h = refl
-
 -- ---- numbers
-
--- what is told where a test fails, and where it holds
-pub told_none : (b : Bool) (n : ℕ) → b ≡ false → (false ≡ b) × (0 ≡ cond b n 0)
-told_none b n h = (sym h, sym (cond_false b n 0 h))
-
-pub told_some : (b : Bool) (n : ℕ) → b ≡ true → (true ≡ b) × (n ≡ cond b n 0)
-told_some b n h = (sym h, sym (cond_true b n 0 h))
 
 grows : (t : List ℕ) (n : ℕ) → n ≤ value_from n t
 unfolding value_from
@@ -38,8 +29,8 @@ no_number max (c ∷ t) h = let z : suc (length t) ≡ 0 = h in absurd (omega ar
 
 -- a digit that is none, or with which the number grows past the most: the token is no number
 stop : (a b d : Bool) (n m max : ℕ) → n ≤ m → (a && leb n max) ≡ false → (d && (a && b) && leb m max) ≡ false
-stop false b d n m max h e = and_false_l (d && false) (leb m max) (and_false_r d false refl)
-stop true b d n m max h e = and_false_r (d && b) (leb m max) (lt-leb m max (omega (arith, leb-false n max e)))
+stop false b d n m max h e = and_left (d && false) (leb m max) (and_right d false refl)
+stop true b d n m max h e = and_right (d && b) (leb m max) (lt-leb m max (omega (arith, leb-false n max e)))
 
 pub stops : (max n c : ℕ) (t s : List ℕ) → all_digits t ≡ all_digits (c ∷ s) → value t ≡ value_from n (c ∷ s)
     → (is_digit c && leb (n * 10 + (c - 48)) max) ≡ false → is_number max t ≡ false
@@ -64,8 +55,8 @@ pub whole_number : (max n : ℕ) (t : List ℕ) → 0 < length t → n ≤ max �
     → is_number max t ≡ true
 unfolding is_number all_digits value_from
 whole_number max n t h k p q =
-    and_true (ltb 0 (length t) && all_digits t) (leb (value t) max)
-    (and_true (ltb 0 (length t)) (all_digits t) (lt-ltb 0 (length t) h) p)
+    and_from (ltb 0 (length t) && all_digits t) (leb (value t) max)
+    (and_from (ltb 0 (length t)) (all_digits t) (lt-ltb 0 (length t) h) p)
     (rw q (le-leb n max k))
 
 pub value_end : (n : ℕ) → value_from n [] ≡ n
@@ -77,49 +68,17 @@ unfolding is_number
 number_most max t h = leb-true (value t) max (and_r (ltb 0 (length t) && all_digits t) (leb (value t) max) h)
 
 -- an offset that is a number is told as it is, and a larger one as the largest
-pub offset_number : (t : List ℕ) → is_number 18446744073709551615 t ≡ true
-    → (is_decimal t ≡ true) × (value t ≡ offset_value t)
+offset_by : (t : List ℕ) (b : Bool) → is_number 18446744073709551615 t ≡ b → is_decimal t ≡ true
+    → unwrap_or (cond b (Some (value t)) None) 18446744073709551615 ≡ offset_value t
 unfolding is_number offset_value
-offset_number t h =
-    let k = leb-true (value t) 18446744073709551615 (and_r (is_decimal t) (leb (value t) 18446744073709551615) h) in
-    (and_l (is_decimal t) (leb (value t) 18446744073709551615) h, omega (arith, k))
-
-pub offset_large : (t : List ℕ) → is_number 18446744073709551615 t ≡ false → is_decimal t ≡ true → 18446744073709551615 ≡ offset_value t
-unfolding is_number offset_value
-offset_large t h d =
+offset_by t true h d = omega (arith, leb-true (value t) 18446744073709551615 (and_r (is_decimal t) (leb (value t) 18446744073709551615) h))
+offset_by t false h d =
     let k : leb (value t) 18446744073709551615 ≡ false = simp d at h in
     omega (arith, leb-false (value t) 18446744073709551615 k)
 
--- ---- digits below a base
-
-pub below_here : (base c : ℕ) (s : List ℕ) → ltb (nibble c) base ≡ false → all_below base (c ∷ s) ≡ false
-unfolding all_below
-below_here base c s h = simp h
-
-pub below_next : (base c : ℕ) (s : List ℕ) → ltb (nibble c) base ≡ true → all_below base (c ∷ s) ≡ all_below base s
-unfolding all_below
-below_next base c s h = simp h
-
-pub below_end : (base : ℕ) → all_below base [] ≡ true
-unfolding all_below
-below_end base = refl
-
--- a decimal digit is one below 10
-digit_below : (c : ℕ) (d l : Bool) → is_digit c ≡ d → (leb 97 c && leb c 102) ≡ l
-    → d ≡ ltb (cond d (c - 48) (cond l (c - 87) 16)) 10
-digit_below c true l h k = sym (lt-ltb (c - 48) 10 (omega (arith, leb-true c 57 (and_r (leb 48 c) (leb c 57) h))))
-digit_below c false true h k = sym (le-ltb (c - 87) 10 (omega (arith, leb-true 97 c (and_l (leb 97 c) (leb c 102) k))))
-digit_below c false false h k = refl
-
-pub digits_below : (t : List ℕ) → all_digits t ≡ all_below 10 t
-unfolding all_digits all_below nibble
-digits_below [] = refl
-digits_below (c ∷ t) = ap₂ ◌&&◌ (digit_below c (is_digit c) (leb 97 c && leb c 102) refl refl) (digits_below t)
-
-pub hex_below : (t : List ℕ) → all_hex t ≡ all_below 16 t
-unfolding all_hex all_below
-hex_below [] = refl
-hex_below (c ∷ t) = ap (λ (b : Bool). ltb (nibble c) 16 && b) (hex_below t)
+pub offset_told : (t : List ℕ) → is_decimal t ≡ true
+    → unwrap_or (cond (is_number 18446744073709551615 t) (Some (value t)) None) 18446744073709551615 ≡ offset_value t
+offset_told t d = offset_by t (is_number 18446744073709551615 t) refl d
 
 -- ---- bytes
 
@@ -135,15 +94,15 @@ length_pairs [] = refl
 length_pairs (h ∷ []) = refl
 length_pairs (h ∷ l ∷ t) = let e = length_pairs t in omega arith
 
-pub pairs_at : (t : List ℕ) (i : ℕ) → i + i + 1 < length t
-    → get_or (pairs t) i 0 ≡ nibble (get_or t (i + i) 0) * 16 + nibble (get_or t (i + i + 1) 0)
+pub pairs_at : (t : List ℕ) (i : ℕ) → 2 * i + 1 < length t
+    → get_or (pairs t) i 0 ≡ nibble (get_or t (2 * i) 0) * 16 + nibble (get_or t (2 * i + 1) 0)
 unfolding pairs
 pairs_at [] i k = absurd (omega arith)
 pairs_at (h ∷ []) i k = absurd (omega arith)
 pairs_at (h ∷ l ∷ t) zero k = refl
 pairs_at (h ∷ l ∷ t) (suc i) k =
-    let e : suc i + suc i ≡ suc (suc (i + i)) = omega arith in
-    let d : suc i + suc i + 1 ≡ suc (suc (i + i + 1)) = omega arith in
+    let e : 2 * suc i ≡ suc (suc (2 * i)) = omega arith in
+    let d : 2 * suc i + 1 ≡ suc (suc (2 * i + 1)) = omega arith in
     rw (d, e) (pairs_at t i (omega arith))
 
 pub pairs_hex : (t : List ℕ) → digit_pairs t ≡ true → all_hex t ≡ true

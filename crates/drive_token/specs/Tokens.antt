@@ -1,5 +1,8 @@
 -- Tokens of a line: where they are cut, and the numbers and bytes that they say.
-use Rattle.std.specs.Prelude.{Bool, true, false, ◌&&◌, ◌||◌, cond, List, [], ◌∷◌, ◌++◌, ℕ, ◌+◌, ◌-◌, ◌*◌, ◌%◌, min, leb, ltb, eqb, length, drop}
+use Rattle.std.specs.Prelude.{Option, Some, None, Bool, ◌&&◌, ◌||◌, cond, List, [], ◌∷◌, ◌++◌, ℕ, ◌+◌, ◌-◌, ◌*◌, ◌%◌, min, leb, ltb, eqb, length, drop}
+use Rattle.std.specs.Borrow.{Bor}
+use Rattle.std.specs.List.{list_all}
+use Rattle.std.specs.Str.{bytes_eq}
 use Rattle.text.specs.Text.{ascii}
 
 -- ---- tokens
@@ -12,6 +15,11 @@ tokens_after token (c ∷ s) = cond (eqb c 32) (token ∷ tokens_after [] s) (to
 unfoldable pub tokens : List ℕ → List (List ℕ)
 tokens line = tokens_after [] line
 
+-- the tokens of what follows a space, if something does
+abbrev pub tokens_in : Option (Bor (List ℕ)) → List (List ℕ)
+tokens_in None = []
+tokens_in (Some s) = tokens s.now
+
 unfoldable pub last : List (List ℕ) → List ℕ
 last [] = []
 last (t ∷ []) = t
@@ -19,10 +27,7 @@ last (t ∷ u ∷ ts) = last (u ∷ ts)
 
 -- a token is a word
 unfoldable pub same : List ℕ → List ℕ → Bool
-same [] [] = true
-same [] (d ∷ t) = false
-same (c ∷ s) [] = false
-same (c ∷ s) (d ∷ t) = eqb c d && same s t
+same s t = bytes_eq s t
 
 -- ---- numbers: decimal digits, leading zeros allowed, however many
 
@@ -30,8 +35,7 @@ abbrev pub is_digit : ℕ → Bool
 is_digit c = leb 48 c && leb c 57
 
 unfoldable pub all_digits : List ℕ → Bool
-all_digits [] = true
-all_digits (c ∷ t) = is_digit c && all_digits t
+all_digits t = list_all is_digit t
 
 -- the number n with more digits after it
 unfoldable pub value_from : ℕ → List ℕ → ℕ
@@ -59,14 +63,8 @@ offset_value t = min (value t) 18446744073709551615
 unfoldable pub nibble : ℕ → ℕ
 nibble c = cond (is_digit c) (c - 48) (cond (leb 97 c && leb c 102) (c - 87) 16)
 
--- each byte is a digit below the base
-unfoldable pub all_below : ℕ → List ℕ → Bool
-all_below base [] = true
-all_below base (c ∷ t) = ltb (nibble c) base && all_below base t
-
 unfoldable pub all_hex : List ℕ → Bool
-all_hex [] = true
-all_hex (c ∷ t) = ltb (nibble c) 16 && all_hex t
+all_hex t = list_all (λ c. ltb (nibble c) 16) t
 
 unfoldable pub digit_pairs : List ℕ → Bool
 digit_pairs t = ltb 0 (length t) && eqb (length t % 2) 0 && leb (length t) 4000 && all_hex t

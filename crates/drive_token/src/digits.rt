@@ -1,148 +1,66 @@
 // Numbers and bytes of a token.
-ghost use Rattle.std.specs.Prelude.{true, ◌&&◌, cond, [], ◌≡◌, ◌+◌, ◌-◌, ◌*◌, ◌≤◌, leb, length};
-ghost use Rattle.drive_token.specs.Tokens.{is_digit, value, all_below, is_decimal, is_number, offset_value, nibble as nibble_of, all_hex, digit_pairs, is_bytes, pairs, over};
+ghost use Rattle.std.specs.Prelude.{true, ◌&&◌, cond, [], ◌≡◌, ◌+◌, ◌-◌, ◌*◌, ◌≤◌, leb, length, IfSome};
+ghost use Rattle.drive_token.specs.Tokens.{is_digit, value, is_decimal, is_number, offset_value, nibble as nibble_of, all_hex, digit_pairs, is_bytes, pairs, over};
 
-// A number that a token says, or 0 where it says none.
-#[derive(Clone, Copy)]
-pub struct Parsed {
-    pub value: u64,
-    pub ok: bool,
-}
-
-pub fn number(token: &[u8], max: u64) -> Parsed
-    ensures ok_value { result.ok ≡ is_number max token.now }
-    ensures value_value { result.value ≡ cond (is_number max token.now) (value token.now) 0 }
-    ensures value_le_max { result.value ≤ max }
+// The number of at most `max` that a token says.
+pub fn number(token: &[u8], max: u64) -> Option<u64>
+    ensures value { result ≡ cond (is_number max token.now) (Some (value token.now)) None }
+    ensures le_max { IfSome result (λ n. n ≤ max) }
 {
-    if token.len() == 0 {
-        return Parsed {
-            value: 0,
-            ok: false,
-        };
+    if token.is_empty() {
+        return None;
     }
-    let mut value: u64 = 0;
-    let mut i = 0;
-    while i < token.len() {
-        let next = with_digit(value, token[i], max);
-        if !next.ok {
-            return Parsed {
-                value: 0,
-                ok: false,
-            };
-        }
-        value = next.value;
-        i += 1;
+    let mut value = 0;
+    for &c in token {
+        value = with_digit(value, c, max)?;
     }
-    Parsed {
-        value: value,
-        ok: true,
-    }
+    Some(value)
 }
 
 // A number with one digit more.
-fn with_digit(n: u64, c: u8, max: u64) -> Parsed
-    ensures ok_value { result.ok ≡ (is_digit c && leb (n * 10 + (c - 48)) max) }
-    ensures value_value { result.value ≡ cond (is_digit c && leb (n * 10 + (c - 48)) max) (n * 10 + (c - 48)) 0 }
+fn with_digit(n: u64, c: u8, max: u64) -> Option<u64>
+    ensures { result ≡ cond (is_digit c && leb (n * 10 + (c - 48)) max) (Some (n * 10 + (c - 48))) None }
 {
-    if !((48 <= c) & (c <= 57)) {
-        return Parsed {
-            value: 0,
-            ok: false,
-        };
+    if !c.is_ascii_digit() {
+        return None;
     }
-    let d = (c - 48) as u64;
-    if max < d {
-        return Parsed {
-            value: 0,
-            ok: false,
-        };
-    }
-    if (max - d) / 10 < n {
-        return Parsed {
-            value: 0,
-            ok: false,
-        };
-    }
-    let tens = n * 10;
-    let value = tens + d;
-    Parsed {
-        value: value,
-        ok: true,
-    }
+    let tens = n.checked_mul(10)?;
+    let value = tens.checked_add(u64::from(c - b'0'))?;
+    if value <= max { Some(value) } else { None }
 }
 
 // An offset, which may be any number: one past the largest is told as the largest.
-pub fn offset(token: &[u8]) -> Parsed
-    ensures ok_value { result.ok ≡ is_decimal token.now }
-    ensures value_value { result.value ≡ cond (is_decimal token.now) (offset_value token.now) 0 }
+pub fn offset(token: &[u8]) -> Option<u64>
+    ensures { result ≡ cond (is_decimal token.now) (Some (offset_value token.now)) None }
 {
-    let n = number(token, u64::MAX);
-    if n.ok {
-        return n;
-    }
-    if (0 < token.len()) & are_digits(token, 10) {
-        Parsed {
-            value: u64::MAX,
-            ok: true,
-        }
+    if (0 < token.len()) & token.iter().all(|c| c.is_ascii_digit()) {
+        Some(number(token, u64::MAX).unwrap_or(u64::MAX))
     } else {
-        Parsed {
-            value: 0,
-            ok: false,
-        }
+        None
     }
 }
 
-// How many bytes a token says in hexadecimal, or 0 where it says none.
-#[derive(Clone, Copy)]
-pub struct HexRead {
-    pub count: usize,
-    pub ok: bool,
-}
-
-// The digits are all looked at before a byte is written.
-pub fn take_hex(hex: &[u8], bytes: &mut [u8]) -> HexRead
+// How many bytes a token says in hexadecimal. The digits are all looked at before a byte is written.
+pub fn take_hex(hex: &[u8], bytes: &mut [u8]) -> Option<usize>
     requires { 2000 ≤ length bytes.old }
-    ensures ok_value { result.ok ≡ is_bytes hex.now }
-    ensures count_value { result.count ≡ cond (is_bytes hex.now) (length (pairs hex.now)) 0 }
+    ensures count { result ≡ cond (is_bytes hex.now) (Some (length (pairs hex.now))) None }
     ensures bytes_after { bytes.new ≡ over (cond (is_bytes hex.now) (pairs hex.now) []) bytes.old }
 {
     if crate::is(hex, b"-") {
-        return HexRead { count: 0, ok: true };
+        return Some(0);
     }
-    if are_pairs(hex) {
-        put_pairs(hex, bytes);
-        HexRead {
-            count: hex.len() / 2,
-            ok: true,
-        }
-    } else {
-        HexRead {
-            count: 0,
-            ok: false,
-        }
+    if !are_pairs(hex) {
+        return None;
     }
+    put_pairs(hex, bytes);
+    Some(hex.len() / 2)
 }
 
 fn are_pairs(hex: &[u8]) -> bool
     ensures { result ≡ digit_pairs hex.now }
 {
     let digits = hex.len();
-    (0 < digits) & (digits % 2 == 0) & (digits <= 4000) & are_digits(hex, 16)
-}
-
-// Whether each byte is a digit below the base, which is 10 or 16.
-fn are_digits(token: &[u8], base: u8) -> bool
-    ensures { result ≡ all_below base token.now }
-{
-    let mut i = 0;
-    while i < token.len() {
-        if base <= nibble(token[i]) {
-            return false;
-        }
-        i += 1;
-    }
-    true
+    (0 < digits) & (digits % 2 == 0) & (digits <= 4000) & hex.iter().all(|c| nibble(*c) < 16)
 }
 
 // Writes a byte for each two digits.
@@ -151,25 +69,19 @@ fn put_pairs(hex: &[u8], bytes: &mut [u8])
     requires hex_len_bound { (length hex.now ≤ 4000) × (2000 ≤ length bytes.old) }
     ensures { bytes.new ≡ over (pairs hex.now) bytes.old }
 {
-    let n = hex.len() / 2;
-    let mut i = 0;
-    while i < n {
-        let at = i + i;
-        let next = at + 1;
-        bytes[i] = nibble(hex[at]) * 16 + nibble(hex[next]);
-        i += 1;
+    for i in 0..hex.len() / 2 {
+        bytes[i] = nibble(hex[2 * i]) * 16 + nibble(hex[2 * i + 1]);
     }
 }
 
-// The value of a hexadecimal digit, or 16.
+// The value of a hexadecimal digit, or 16. An Option is no plainer: put_pairs adds up digits that are_pairs has looked at, and would unwrap two.
+#[tactic(auto, unfolding(crate::specs::Tokens::nibble))]
 fn nibble(c: u8) -> u8
     ensures { result ≡ nibble_of c }
 {
-    if (48 <= c) & (c <= 57) {
-        c - 48
-    } else if (97 <= c) & (c <= 102) {
-        c - 87
-    } else {
-        16
+    match c {
+        b'0'..=b'9' => c - b'0',
+        b'a'..=b'f' => c - b'a' + 10,
+        _ => 16,
     }
 }

@@ -4,26 +4,23 @@
 
 pub mod digits;
 
-ghost use Rattle.std.specs.Prelude.{cond, [], ◌∷◌, ◌≡◌, ◌+◌, ◌≤◌, ltb, length, take, drop};
-ghost use Rattle.drive_token.specs.Tokens.{tokens, same};
+ghost use Rattle.std.specs.Prelude.{◌∷◌, ◌≡◌};
+ghost use Rattle.drive_token.specs.Tokens.{tokens, tokens_in, same};
 
-// The bytes before the first space.
-pub fn first_token(s: &[u8]) -> usize
-    ensures upper_bound { result ≤ length s.now }
-    ensures s_value { tokens s.now ≡ cond (ltb result (length s.now)) (take result s.now ∷ tokens (drop (result + 1) s.now)) (s.now ∷ []) }
+// The first token, and what follows the space after it, if there is one.
+pub fn cut(s: &[u8]) -> (&[u8], Option<&[u8]>)
+    ensures { tokens s.now ≡ result.0.now ∷ tokens_in result.1 }
 {
-    let mut i = 0;
-    while i < s.len() {
-        if s[i] == 32 {
-            return i;
-        }
-        i += 1;
+    match s.iter().position(|c| *c == b' ') {
+        Some(n) => (&s[..n], Some(&s[n + 1..])),
+        None => (s, None),
     }
-    i
 }
 
+// Whether a token is a word. A == in its place would need a slice made of each b"word".
+#[tactic(auto, unfolding(crate::specs::Tokens::same))]
 pub fn is(token: &[u8], word: &[u8]) -> bool
     ensures { result ≡ same token.now word.now }
 {
-    check::same(token, word)
+    token == word
 }

@@ -2,14 +2,16 @@
 
 #![tactic(auto)]
 
-ghost use Rattle.std.specs.Prelude.{◌≡◌, true, cond, ltb, length};
-ghost use Rattle.end_state.specs.Refusals.{store_is, counts_sound as counts_sound_of, numbers_sound as numbers_sound_of, sound as sound_of, previous_run, last_run};
+ghost use Rattle.std.specs.Prelude.{◌≡◌, cond, ltb};
+ghost use Rattle.end_state.specs.Refusals.{store_is, counts_sound as counts_sound_of, numbers_sound as numbers_sound_of};
+ghost use Rattle.end_judge.specs.Judge.{judged};
 
-use end_state::{End, walk};
+use end_state::ring::Ring;
+use end_state::{End, Refusal, walk};
 use flit_number::FlitCount;
 
 // 1 STORE: the store is the one that the state was started with.
-pub fn is_its_store(e: End, bytes: usize) -> bool
+fn is_its_store(e: End, bytes: usize) -> bool
     ensures { result ≡ store_is e bytes }
 {
     end_state::is_store(bytes) & (bytes / End::FLIT == e.capacity.0)
@@ -51,36 +53,30 @@ fn inside_oldest(e: End) -> usize
     if 0 < e.held.0 { e.kept.0 } else { 0 }
 }
 
-// Whether a state is sound with its store, and if so the run lengths of the control flit before the cursor and of the last one
-// accepted.
+// The run lengths of the control flit before the cursor and of the last one accepted.
 #[derive(Clone, Copy)]
-pub struct Judged {
+pub struct Runs {
     pub previous: FlitCount,
     pub last: FlitCount,
-    pub sound: bool,
 }
 
-// 2 STATE.
-pub fn judge(e: End, store: &[u8]) -> Judged
-    requires { store_is e (length store.now) ≡ true }
-    ensures sound_value { result.sound ≡ sound_of e store.now }
-    ensures previous_value { result.previous.0 ≡ cond (sound_of e store.now) (previous_run e store.now) 0 }
-    ensures last_value { result.last.0 ≡ cond (sound_of e store.now) (last_run e store.now) 0 }
+// STORE and STATE, or the run lengths.
+pub fn judge(e: End, store: &[u8]) -> Result<Runs, Refusal>
+    ensures { result ≡ judged e store.now }
 {
-    if counts_sound(e) & numbers_sound(e) {
-        let cursor = flit_number::flits_between(e.oldest, e.cursor);
-        let cut = walk::cut_units(e, store, cursor);
-        if cut.whole.border & cut.whole.sound & cut.cursor.border {
-            return Judged {
-                previous: FlitCount(cut.cursor.run),
-                last: FlitCount(cut.whole.run),
-                sound: true,
-            };
-        }
+    if !is_its_store(e, store.len()) {
+        return Err(Refusal::Store);
     }
-    Judged {
-        previous: FlitCount(0),
-        last: FlitCount(0),
-        sound: false,
+    if !(counts_sound(e) & numbers_sound(e)) {
+        return Err(Refusal::State);
     }
+    let cursor = flit_number::flits_between(e.oldest, e.cursor);
+    let cut = walk::cut_units(Ring { end: &e, store }, cursor);
+    if !(cut.whole.border & cut.whole.sound & cut.cursor.border) {
+        return Err(Refusal::State);
+    }
+    Ok(Runs {
+        previous: FlitCount(cut.cursor.run),
+        last: FlitCount(cut.whole.run),
+    })
 }

@@ -2,7 +2,7 @@
 -- is inside that unit, and past its control flit on the next border. So between two borders lie whole units.
 use mathlib.Core.Bool.{Bool, true, false, ◌&&◌, cond}
 use mathlib.Core.List.{List}
-use mathlib.Core.Path.{◌≡◌, refl, sym, ap, ap₂, ◌∙◌, subst}
+use mathlib.Core.Path.{◌≡◌, refl, sym, ap, ◌∙◌, subst}
 use Prim.Native.Nat.{ℕ, zero, suc, ◌+◌, ◌-◌, ◌<◌, ◌≤◌}
 use native.Mathlib.Omega.{arith}
 use native.Mathlib.Nat.{add-suc, add-zero}
@@ -14,7 +14,8 @@ use Rattle.flit_read.specs.Fields.{content, link_bits, run_length, acceptable}
 use Rattle.end_state.specs.Ring.{flit_at, ring_place, walk_begun, passed, walk_over, walked, stored}
 use Rattle.end_state.specs.declared.End.{End}
 use Rattle.end_state.specs.declared.walk.Walk.{Walk}
-use Rattle.end_state.proofs.Tests.{and_l, and_r, cond_either}
+use Rattle.std.proofs.lemmas.Bool.{cond_both}
+use Rattle.end_state.proofs.Tests.{and_l, and_r}
 
 -- a data flit, and a control flit
 pub passed_data : (flit : List ℕ) (w : Walk) → 0 < w.left
@@ -42,7 +43,7 @@ pub record Fair (w : Walk) : Type 0 where
 fair_passed : (flit : List ℕ) (w : Walk) → Fair w → Fair (passed flit w)
 unfolding passed acceptable
 fair_passed flit w f =
-    cond_either Fair (ltb 0 w.left) _ _
+    cond_both (ltb 0 w.left) _ _ Fair
     (λ t. record { left = omega (arith, f.left, ltb-true 0 w.left t); at_border = λ b. absurd_border b; small = f.small })
     (λ t. record { left = omega arith; at_border = λ b. refl; small = λ s. leb-true (read run_length (content flit)) 8 (and_l (leb (read run_length (content flit)) 8) (eqb (read link_bits (content flit)) 0) (and_r w.sound (acceptable flit) s)) })
   where
@@ -150,12 +151,6 @@ pub walk_step : (places first : ℕ) (w : Walk) (store : List ℕ) (n : ℕ)
     → walk_over places first w store (n + 1) ≡ passed (flit_at store (ring_place places first n)) (walk_over places first w store n)
 unfolding walk_over
 walk_step places first w store n = rw add-one
-
-pub one_more : (places first : ℕ) (w₀ : Walk) (store : List ℕ) (n p : ℕ) (flit : List ℕ) (w r : Walk) → r ≡ passed flit w → flit ≡ flit_at store p
-    → p ≡ ring_place places first n
-    → w ≡ walk_over places first w₀ store n
-    → r ≡ walk_over places first w₀ store (n + 1)
-one_more places first w₀ store n p flit w r h f k v = h ∙ ap₂ passed (f ∙ ap (flit_at store) k) v ∙ sym (walk_step places first w₀ store n)
 
 -- a walk is its four parts
 same : (u v : Walk) → u.left ≡ v.left → u.run ≡ v.run → u.border ≡ v.border → u.sound ≡ v.sound → u ≡ v

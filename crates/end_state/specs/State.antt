@@ -1,13 +1,11 @@
 -- The fresh end and start, tests of the mode, and the numbers of the refusals (01, "What an end keeps"; "Refusals by number").
-use Rattle.std.specs.Prelude.{Bool, true, false, ◌&&◌, cond, ℕ, ◌/◌, ◌%◌, leb, eqb, replicate}
+use Rattle.std.specs.Prelude.{Bool, true, false, ◌&&◌, cond, ℕ, ◌/◌, ◌%◌, leb, eqb, replicate, Result, Ok, Err}
 use Rattle.end_state.specs.declared.End.{End}
-use Rattle.end_state.specs.declared.Started.{Started}
+use Rattle.end_state.specs.declared.Answered.{Answered}
 use Rattle.end_state.specs.declared.Mode.{Mode}
 use Rattle.end_state.specs.declared.Mode.TheVariants.{Run, Wait, Down}
 use Rattle.end_state.specs.declared.Refusal.{Refusal}
 use Rattle.end_state.specs.declared.Refusal.TheVariants as refusal
-use Rattle.end_state.specs.declared.Verdict.{Verdict}
-use Rattle.end_state.specs.declared.Verdict.TheVariants.{Refused, Admitted}
 
 -- the number of a refusal
 abbrev pub refusal_number : Refusal → ℕ
@@ -21,9 +19,9 @@ refusal_number refusal.Field = 7
 refusal_number refusal.Full = 8
 
 -- what a call returns: the number of its refusal, or 0
-abbrev pub verdict_number : Verdict → ℕ
-verdict_number (Refused r) = refusal_number r
-verdict_number Admitted = 0
+abbrev pub verdict_number : {A : Type 0} → Result A Refusal → ℕ
+verdict_number (Err r) = refusal_number r
+verdict_number (Ok a) = 0
 
 -- capacity C is 9 to 1,024 flits: a store of 64 C bytes
 unfoldable pub store_fits : ℕ → Bool
@@ -55,11 +53,11 @@ fresh capacity =
     }
 
 -- start refuses with STORE, and then gives a state of capacity 0
-unfoldable pub start : ℕ → Started
+unfoldable pub start : ℕ → Answered (Result (Unit {0}) Refusal)
 start bytes =
     cond (store_fits bytes)
-    (record { verdict = Admitted; end = fresh (bytes / 64) })
-    (record { verdict = Refused refusal.Store; end = fresh 0 })
+    (record { answer = Ok tt; end = fresh (bytes / 64) })
+    (record { answer = Err refusal.Store; end = fresh 0 })
 
 -- tests of the mode
 abbrev pub is_run : Mode → Bool

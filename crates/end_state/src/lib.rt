@@ -7,23 +7,39 @@ pub mod ring;
 pub mod walk;
 
 ghost use Rattle.std.specs.Prelude.{◌≡◌, length};
-ghost use Rattle.end_state.specs.State.{store_fits, fresh as fresh_of, start as start_of, is_wait as is_wait_of, refusal_number as refusal_number_of, verdict_number as verdict_number_of};
+ghost use Rattle.end_state.specs.State.{store_fits, fresh as fresh_of, start as start_of, is_wait as is_wait_of, refusal_number, verdict_number as verdict_number_of};
 ghost use Rattle.end_state.specs.Refusals.{is_down as is_down_of};
 
 use flit_number::{FlitCount, NextWanted, SequenceNumber};
 
 // Run: flits are taken in order. Wait: a replay flit is waited for. Down: every call but start is refused.
-#[derive(Clone, Copy)]
+#[derive(Clone, Copy, PartialEq, Eq)]
 pub enum Mode {
     Run,
     Wait,
     Down,
 }
 
-// What is refused. specs/State.antt gives the number of each.
-#[derive(Clone, Copy)]
+impl Mode {
+    // 5 DOWN.
+    pub fn is_down(self) -> bool
+        ensures { result ≡ is_down_of self }
+    {
+        self == Mode::Down
+    }
+
+    // Whether a replay flit is waited for.
+    pub fn is_wait(self) -> bool
+        ensures { result ≡ is_wait_of self }
+    {
+        self == Mode::Wait
+    }
+}
+
+// What is refused, by document 01's numbers.
+#[derive(Clone, Copy, PartialEq, Eq)]
 pub enum Refusal {
-    Store,
+    Store = 1,
     State,
     Shape,
     Out,
@@ -33,11 +49,22 @@ pub enum Refusal {
     Full,
 }
 
-// What is found before a call does anything.
-#[derive(Clone, Copy)]
-pub enum Verdict {
-    Refused(Refusal),
-    Admitted,
+impl From<Refusal> for u64 {
+    ghost from_gives = { λ refusal n. n ≡ refusal_number refusal };
+
+    fn from(refusal: Refusal) -> u64 {
+        refusal as u64
+    }
+}
+
+// The number of what is refused, or 0.
+pub fn verdict_number<A: Copy>(answer: Result<A, Refusal>) -> u64
+    ensures { result ≡ verdict_number_of answer }
+{
+    match answer {
+        Ok(_) => 0,
+        Err(refusal) => u64::from(refusal),
+    }
 }
 
 // Fields of one size stand together: a copy then has no gaps.
@@ -70,10 +97,10 @@ pub struct End {
     pub mode: Mode,
 }
 
-// What start answers, and the end made.
+// What a call answers, and the end after it.
 #[derive(Clone, Copy)]
-pub struct Started {
-    pub verdict: Verdict,
+pub struct Answered<A> {
+    pub answer: A,
     pub end: End,
 }
 
@@ -98,8 +125,8 @@ impl End {
         ensures { result ≡ fresh_of capacity.0 }
     {
         End {
-            information: [0u64; 8],
-            capacity: capacity,
+            information: [0; 8],
+            capacity,
             first: 0,
             held: FlitCount(0),
             kept: FlitCount(0),
@@ -121,21 +148,19 @@ impl End {
     }
 
     // A fresh end over a lent store.
-    pub fn start(store: &[u8]) -> Started
+    pub fn start(store: &[u8]) -> Answered<Result<(), Refusal>>
         ensures { result ≡ start_of (length store.now) }
     {
         let bytes = store.len();
         if is_store(bytes) {
-            let end = End::fresh(FlitCount(bytes / End::FLIT));
-            Started {
-                verdict: Verdict::Admitted,
-                end: end,
+            Answered {
+                answer: Ok(()),
+                end: End::fresh(FlitCount(bytes / End::FLIT)),
             }
         } else {
-            let end = End::fresh(FlitCount(0));
-            Started {
-                verdict: Verdict::Refused(Refusal::Store),
-                end: end,
+            Answered {
+                answer: Err(Refusal::Store),
+                end: End::fresh(FlitCount(0)),
             }
         }
     }
@@ -147,52 +172,4 @@ pub fn is_store(bytes: usize) -> bool
 {
     let places = bytes / End::FLIT;
     (bytes % End::FLIT == 0) & (End::LEAST <= places) & (places <= End::MOST)
-}
-
-// 5 DOWN.
-pub fn is_down(mode: Mode) -> bool
-    ensures { result ≡ is_down_of mode }
-{
-    match mode {
-        Mode::Run => false,
-        Mode::Wait => false,
-        Mode::Down => true,
-    }
-}
-
-// Whether a replay flit is waited for.
-pub fn is_wait(mode: Mode) -> bool
-    ensures { result ≡ is_wait_of mode }
-{
-    match mode {
-        Mode::Run => false,
-        Mode::Wait => true,
-        Mode::Down => false,
-    }
-}
-
-// The number of a refusal.
-pub fn refusal_number(refusal: Refusal) -> u64
-    ensures { result ≡ refusal_number_of refusal }
-{
-    match refusal {
-        Refusal::Store => 1,
-        Refusal::State => 2,
-        Refusal::Shape => 3,
-        Refusal::Out => 4,
-        Refusal::Down => 5,
-        Refusal::Run => 6,
-        Refusal::Field => 7,
-        Refusal::Full => 8,
-    }
-}
-
-// The number of what is refused, or 0.
-pub fn verdict_number(verdict: Verdict) -> u64
-    ensures { result ≡ verdict_number_of verdict }
-{
-    match verdict {
-        Verdict::Refused(refusal) => refusal_number(refusal),
-        Verdict::Admitted => 0,
-    }
 }

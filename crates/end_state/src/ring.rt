@@ -1,6 +1,31 @@
 // Places of the ring, and flits copied to and from them.
 ghost use Rattle.std.specs.Prelude.{◌≡◌, ◌+◌, ◌*◌, ◌<◌, ◌≤◌, length};
-ghost use Rattle.end_state.specs.Ring.{ring_place, flit_at, put_at};
+ghost use Rattle.end_state.specs.Ring.{ring_place, stored, flit_at, put_at};
+
+use crate::End;
+use flit_read::copy;
+
+// An end with its store, which has its places.
+#[derive(Clone, Copy)]
+pub struct Ring<'a> {
+    pub end: &'a End,
+    pub store: &'a [u8],
+    ghost whole: { length store.now ≡ end.now.capacity.0 * 64 },
+    ghost most: { end.now.capacity.0 ≤ 1024 },
+    ghost inside: { end.now.first < end.now.capacity.0 },
+}
+
+impl<'a> Ring<'a> {
+    // The flit n after the oldest.
+    pub fn flit(self, n: usize) -> &'a [u8]
+        requires { n ≤ self.end.now.capacity.0 }
+        ensures value { result.now ≡ stored self.entry.end.now self.entry.store.now n }
+        ensures bytes { length result.now ≡ 64 }
+    {
+        let from = place(self.end.capacity.0, self.end.first, n) * 64;
+        &self.store[from..from + 64]
+    }
+}
 
 // The place n after the first, round a ring of so many places.
 pub fn place(places: usize, first: usize, n: usize) -> usize
@@ -18,9 +43,7 @@ pub fn copy_flit(from: &[u8], at: usize, to: &mut [u8], over: usize)
     ensures { to.new ≡ put_at to.old over (flit_at from.now at) }
 {
     let start = at * 64;
-    let end = start + 64;
-    let flit = flit_read::copy::taken(&from[start..end]);
     let first = over * 64;
-    let last = first + 64;
-    flit_read::copy::put(&mut to[first..last], flit);
+    let flit: [u8; 64] = copy::taken(&from[start..start + 64]);
+    copy::put(&mut to[first..first + 64], flit);
 }

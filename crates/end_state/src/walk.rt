@@ -1,9 +1,10 @@
 // The walk over the held flits that cuts them into units.
-ghost use Rattle.std.specs.Prelude.{◌&&◌, ◌≡◌, ◌-◌, ◌*◌, ◌<◌, ◌≤◌, eqb, length};
+ghost use Rattle.std.specs.Prelude.{◌&&◌, ◌≡◌, ◌-◌, ◌≤◌, eqb, length};
 ghost use Rattle.end_state.specs.Ring.{walk_begun, passed as passed_of, walked};
 
-use crate::{End, ring};
+use crate::ring::Ring;
 use flit_number::FlitCount;
+use flit_read::read;
 
 // After some of the held flits: the data flits before the next control flit, the data flits of the unit last begun, whether a unit
 // ends here, and whether every control flit so far is one that accept takes.
@@ -32,19 +33,20 @@ pub fn passed(flit: &[u8], w: Walk) -> Walk
     requires { length flit.now ≡ 64 }
     ensures { result ≡ passed_of flit.now w }
 {
-    let mut next = w;
     if 0 < w.left {
-        next.left = w.left - 1;
-        next.border = false;
-        return next;
+        return Walk {
+            left: w.left - 1,
+            border: false,
+            ..w
+        };
     }
-    let run = flit_read::read::run_length(flit_read::read::content(flit));
-    let acceptable = flit_read::read::acceptable(flit);
-    next.left = run.0;
-    next.run = run.0;
-    next.border = true;
-    next.sound = w.sound & acceptable;
-    next
+    let run = read::run_length(read::content(flit)).0;
+    Walk {
+        left: run,
+        run,
+        border: true,
+        sound: w.sound & read::acceptable(flit),
+    }
 }
 
 // The walk at the cursor, and over all held flits.
@@ -55,41 +57,36 @@ pub struct Cut {
 }
 
 // Cuts the held flits into units; `cursor` of them lie before the cursor.
-pub fn cut_units(e: End, store: &[u8], cursor: FlitCount) -> Cut
-    requires { (length store.now ≡ e.capacity.0 * 64) × (e.capacity.0 ≤ 1024) × (e.first < e.capacity.0) × (e.held.0 ≤ e.capacity.0) × (cursor.0 ≤ e.held.0) }
-    ensures cursor_value { result.cursor ≡ walked e store.now cursor.0 }
-    ensures whole_value { result.whole ≡ walked e store.now e.held.0 }
+pub fn cut_units(ring: Ring, cursor: FlitCount) -> Cut
+    requires { (ring.end.now.held.0 ≤ ring.end.now.capacity.0) × (cursor.0 ≤ ring.end.now.held.0) }
+    ensures cursor_value { result.cursor ≡ walked ring.entry.end.now ring.entry.store.now cursor.0 }
+    ensures whole_value { result.whole ≡ walked ring.entry.end.now ring.entry.store.now ring.entry.end.now.held.0 }
 {
-    let at = cursor.0;
-    let held = e.held.0;
-    let met = walk_on(e, store, begun(e.kept), 0, at);
-    let all = walk_on(e, store, met, at, held);
+    let met = walk_on(ring, begun(ring.end.kept), 0, cursor.0);
     Cut {
         cursor: met,
-        whole: all,
+        whole: walk_on(ring, met, cursor.0, ring.end.held.0),
     }
 }
 
-// The walk, continued from flit `start` to flit `end`. It goes from one control flit to the next: no data flit is read.
-fn walk_on(e: End, store: &[u8], begun: Walk, start: usize, end: usize) -> Walk
-    requires { (length store.now ≡ e.capacity.0 * 64) × (e.capacity.0 ≤ 1024) × (e.first < e.capacity.0) × (start ≤ end) × (end ≤ e.capacity.0) × (begun ≡ walked e store.now start) }
-    ensures { result ≡ walked e store.now end }
+// The walk, continued from flit `start` to flit `end`. It goes from one control flit to the next: no data flit is read. No iterator has
+// such steps.
+fn walk_on(ring: Ring, begun: Walk, start: usize, end: usize) -> Walk
+    requires { (start ≤ end) × (end ≤ ring.end.now.capacity.0) × (begun ≡ walked ring.end.now ring.store.now start) }
+    ensures { result ≡ walked ring.entry.end.now ring.entry.store.now end }
 {
-    let places = e.capacity.0;
-    let first = e.first;
     let mut w = begun;
     let mut n = start;
     while n < end {
         let data = w.left;
+        // Where no data flits are left, the next place is known before the flit is read: the sum alone takes twice the time there.
         if 0 < data {
             if end - n <= data {
                 return past_data(w, end - n);
             }
             n += data;
         }
-        let from = ring::place(places, first, n) * 64;
-        let to = from + 64;
-        w = passed(&store[from..to], past_data(w, data));
+        w = passed(ring.flit(n), past_data(w, data));
         n += 1;
     }
     w
@@ -102,8 +99,7 @@ fn past_data(w: Walk, flits: usize) -> Walk
 {
     Walk {
         left: w.left - flits,
-        run: w.run,
         border: w.border & (flits == 0),
-        sound: w.sound,
+        ..w
     }
 }

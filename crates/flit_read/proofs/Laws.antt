@@ -1,16 +1,16 @@
 -- Bytes and the numbers that they make. A list of bytes is the number's digits to the base 256, lowest first, so that taking and dropping
--- bytes is the rest and the quotient by a power of 256, and `bytes` and `number` are inverse to each other. Then what the reading of
--- two, four and eight bytes at a place gives, that a replay flit's bits 159:96 are its DL content, and that no
--- field holds more than its bits.
+-- bytes is the rest and the quotient by a power of 256, and `bytes` and `number` are inverse to each other. Then that the
+-- library reads and writes numbers so, that a replay flit's bits 159:96 are its DL content, and that no field holds more than its bits.
 use mathlib.Core.Path.{◌≡◌, refl, sym, ap, ap₂, ◌∙◌}
 use mathlib.Core.List.{List, [], ◌∷◌, ◌++◌}
 use Prim.Native.Nat.{ℕ, zero, suc, ◌+◌, ◌-◌, ◌*◌, ◌/◌, ◌%◌, ◌^◌, ◌<◌, ◌≤◌}
-use native.Mathlib.Nat.{div-div-eq-div-mul, pow-succ', zero-div, zero-mod, mul_assoc, mod-add-div, mod-eq_of_lt, div-eq_of_lt, add-mul-mod_self_left, add-mul-div_left, add_assoc}
+use native.Mathlib.Nat.{div-div-eq-div-mul, pow-suc, pow-succ', zero-div, zero-mod, mul_assoc, mul_comm, mod-add-div, mod-eq_of_lt, div-eq_of_lt, add-mul-mod_self_left, add-mul-div_left}
 use native.Mathlib.Numerals.{add-one}
 use native.Mathlib.Omega.{arith}
 use lib.ListN.{length, take, drop, get_or, replicate, take-append-drop, length-drop}
 use lib.Pow.{pow-add}
-use lib.Seq.{drop-cons, drop-drop, get_or-drop, length-take-le}
+use lib.Seq.{take-suc, take_all, drop-cons, drop-drop, get_or-drop, length-take-le}
+use Rattle.std.specs.Int.{w16, w64, from_le_bytes, to_le_bytes, sum_through, byte_worth, bytes_low_first}
 use Rattle.crc.specs.Unit.{AllBytes}
 use Rattle.flit_read.specs.Bytes.{number, bytes, span, read}
 use Rattle.flit_read.specs.Fields.{content, replay_content, fields_of}
@@ -152,27 +152,6 @@ pub number_first : (s : List ℕ) (k : ℕ) → k < length s → number (drop k 
 unfolding number
 number_first s k h = rw (add-one, drop-cons s k 0)
 
-number_two : (s : List ℕ) (k : ℕ) → k + 2 ≤ length s
-    → number (drop k s) ≡ number (get_or s k 0 ∷ get_or s (k + 1) 0 ∷ []) + 65536 * number (drop (k + 2) s)
-unfolding number
-number_two s k h =
-    let e : k + 1 + 1 ≡ k + 2 = omega arith in
-    let a = number_first s k (omega arith) in
-    let b = number_first s (k + 1) (omega arith) in
-    let d = ap (λ (n : ℕ). number (drop n s)) e in omega arith
-
-number_four : (s : List ℕ) (k : ℕ) → k + 4 ≤ length s
-    → number (drop k s)
-    ≡ number (get_or s k 0 ∷ get_or s (k + 1) 0 ∷ get_or s (k + 2) 0 ∷ get_or s (k + 3) 0 ∷ []) + 4294967296 * number (drop (k + 4) s)
-unfolding number
-number_four s k h =
-    let a = number_two s k (omega arith) in
-    let b = number_two s (k + 2) (omega arith) in
-    let e : k + 2 + 2 ≡ k + 4 = omega arith in
-    let f : k + 2 + 1 ≡ k + 3 = omega arith in
-    let d = ap (λ (n : ℕ). number (drop n s)) e in
-    let g = ap (λ (n : ℕ). get_or s n 0) f in omega arith
-
 -- n bytes of a part, and the rest
 pub number_part : (n : ℕ) (s : List ℕ) (k : ℕ) → k + n ≤ length s
     → number (drop k s) ≡ number (take n (drop k s)) + 256 ^ n * number (drop (k + n) s)
@@ -181,24 +160,42 @@ number_part n s k h =
     ap number (sym (take-append-drop n (drop k s))) ∙ number_append (take n (drop k s)) (drop n (drop k s))
     ∙ ap₂ (λ (m : ℕ) (t : List ℕ). number (take n (drop k s)) + 256 ^ m * number t) l (drop-drop n k s)
 
-pub number_pair : (s : List ℕ) (k : ℕ) → k + 2 ≤ length s → number (take 2 (drop k s)) ≡ number (get_or s k 0 ∷ get_or s (k + 1) 0 ∷ [])
-number_pair s k h =
-    let a = number_two s k h in
-    let p = number_part 2 s k h in omega arith
+-- ---- the library's reading and writing of a number
 
-pub number_eight : (s : List ℕ) (k : ℕ) → k + 8 ≤ length s
-    → number (take 8 (drop k s))
-    ≡ number (get_or s k 0 ∷ get_or s (k + 1) 0 ∷ get_or s (k + 2) 0 ∷ get_or s (k + 3) 0 ∷ [])
-    + 4294967296 * number (get_or s (k + 4) 0 ∷ get_or s (k + 5) 0 ∷ get_or s (k + 6) 0 ∷ get_or s (k + 7) 0 ∷ [])
+read_through : (s : List ℕ) (k : ℕ) → k < length s → sum_through (λ i. byte_worth i (get_or s i 0)) k ≡ number (take (suc k) s)
 unfolding number
-number_eight s k h =
-    let a = number_four s k (omega arith) in
-    let b = number_four s (k + 4) (omega arith) in
-    let p = number_part 8 s k h in
-    let e₁ = ap (λ (n : ℕ). get_or s n 0) (add_assoc k 4 1) in
-    let e₂ = ap (λ (n : ℕ). get_or s n 0) (add_assoc k 4 2) in
-    let e₃ = ap (λ (n : ℕ). get_or s n 0) (add_assoc k 4 3) in
-    let e₄ = ap (λ (n : ℕ). number (drop n s)) (add_assoc k 4 4) in omega arith
+read_through [] zero h = absurd (omega arith)
+read_through (b ∷ s) zero h = omega arith
+read_through s (suc k) h =
+    let e = read_through s k (omega arith) in
+    let l = length-take-le (suc k) s (omega arith) in
+    let p = number_append (take (suc k) s) (get_or s (suc k) 0 ∷ []) in
+    let m = ap (λ (n : ℕ). 256 ^ n * number (get_or s (suc k) 0 ∷ [])) l in
+    let c = mul_comm (256 ^ suc k) (get_or s (suc k) 0) in
+    rw (take-suc s (suc k) 0 h) (omega arith)
+
+pub number_2 : (s : List ℕ) → length s ≡ 2 → from_le_bytes w16 s ≡ number s
+number_2 s h = read_through s 1 (omega arith) ∙ ap number (take_all 2 s (omega arith))
+
+pub number_8 : (s : List ℕ) → length s ≡ 8 → from_le_bytes w64 s ≡ number s
+number_8 s h = read_through s 7 (omega arith) ∙ ap number (take_all 8 s (omega arith))
+
+-- one byte further on
+div_further : (k x : ℕ) → x / 256 ^ suc k ≡ x / 256 ^ k / 256
+div_further k x = ap (λ (n : ℕ). x / n) (pow-suc 256 k) ∙ sym (div-div-eq-div-mul x (256 ^ k) 256)
+
+written_from : (i k x : ℕ) → bytes_low_first i k x ≡ bytes k (x / 256 ^ i)
+unfolding bytes
+written_from i zero x = refl
+written_from zero (suc k) x = let d : x / 1 ≡ x = omega arith in rw d (ap (λ (t : List ℕ). x % 256 ∷ t) (written_from 1 k x))
+written_from (suc i) (suc k) x =
+    ap (λ (t : List ℕ). x / 256 ^ suc i % 256 ∷ t) (written_from (suc (suc i)) k x ∙ ap (bytes k) (div_further (suc i) x))
+
+pub bytes_2 : (x : ℕ) → to_le_bytes w16 x ≡ bytes 2 x
+bytes_2 x = written_from 0 2 x ∙ ap (bytes 2) (omega arith)
+
+pub bytes_8 : (x : ℕ) → to_le_bytes w64 x ≡ bytes 8 x
+bytes_8 x = written_from 0 8 x ∙ ap (bytes 8) (omega arith)
 
 -- ---- a replay flit's bits 159:96 are its DL content
 

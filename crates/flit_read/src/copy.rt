@@ -1,28 +1,18 @@
-// A flit by value, and back into a part of a buffer. A copy through a value is faster than one from slice to slice.
+// Bytes of a buffer by value, and written back: a flit, or a number in it. A copy through a value is faster than one from slice to slice.
 ghost use Rattle.std.specs.Prelude.{◌≡◌, length};
 
-// The flit that a part of a buffer holds.
-pub fn taken(part: &[u8]) -> [u8; 64]
-    requires { length part.now ≡ 64 }
+// The bytes that a part of a buffer holds.
+pub fn taken<const N: usize>(part: &[u8]) -> [u8; N]
+    requires { length part.now ≡ N }
     ensures { result ≡ part.now }
 {
-    let mut flit = [0u8; 64];
-    let mut i = 0;
-    while i < 64 {
-        flit[i] = part[i];
-        i += 1;
-    }
-    flit
+    *part.as_array().unwrap()
 }
 
-// Writes a flit over a part of a buffer.
-pub fn put(part: &mut [u8], flit: [u8; 64])
-    requires { length part.old ≡ 64 }
-    ensures { part.new ≡ flit }
+// Writes bytes over a part of a buffer. `copy_from_slice` takes longer: it looks first whether the two overlap.
+pub fn put<const N: usize>(part: &mut [u8], bytes: [u8; N])
+    requires { length part.old ≡ N }
+    ensures { part.new ≡ bytes.entry }
 {
-    let mut i = 0;
-    while i < 64 {
-        part[i] = flit[i];
-        i += 1;
-    }
+    *part.as_mut_array().unwrap() = bytes;
 }

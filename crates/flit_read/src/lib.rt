@@ -23,3 +23,10 @@ pub struct Fields {
     pub short: bool,
     pub nack: bool,
 }
+
+impl Fields {
+    // Run lengths that say what a flit is: 0 to 8 of a control flit, and these two.
+    pub const REPLAY: usize = 10;
+
+    pub const IDLE: usize = 15;
+}

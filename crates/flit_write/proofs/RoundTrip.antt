@@ -2,7 +2,7 @@
 -- begins, and every field but the check stands there. So the fields read are those of the content that was written, and it was written as
 -- the sum of its fields, each below the next one's place.
 use mathlib.Core.Path.{◌≡◌, refl, sym, ap, ap₂, ◌∙◌, subst}
-use mathlib.Core.Bool.{Bool, true, false, ◌&&◌}
+use mathlib.Core.Bool.{Bool, true, false}
 use mathlib.Core.List.{List, [], ◌++◌}
 use Prim.Native.Nat.{ℕ, ◌+◌, ◌-◌, ◌*◌, ◌/◌, ◌%◌, ◌^◌, ◌<◌, ◌≤◌}
 use native.Mathlib.Nat.{mod-eq_of_lt}
@@ -11,6 +11,7 @@ use borrow.Author.Tests.{leb-true, eqb-true, eq-eqb}
 use lib.Dec.{eqb, leb}
 use lib.ListN.{length, take, drop, get_or, replicate, length-append, length-drop, take-append-drop}
 use lib.Seq.{take-add, drop_at, take_at, take-take, length-take-le, drop-append_seam, get_or-drop, get_or-append-add}
+use Rattle.std.proofs.lemmas.Bool.{and_parts}
 use Rattle.crc.specs.Unit.{AllBytes, right}
 use Rattle.crc.specs.Register.{bit_value}
 use Rattle.crc.specs.Seal.{sealed}
@@ -250,15 +251,6 @@ pub record Acceptable (flit : List ℕ) : Type 0 where
   pub run : (fields_of flit).run.0 ≤ 8
   pub small : content flit < 2 ^ 18
 
-both_left : (a b : Bool) → a && b ≡ true → a ≡ true
-both_left true b e = refl
-both_left false b e = e
-
-both_right : (a b : Bool) → a && b ≡ true → b ≡ true
-both_right true b e = e
-both_right false true e = refl
-both_right false false e = e
-
 content_below : (flit : List ℕ) → length flit ≡ 64 → AllBytes flit → content flit < 2 ^ 64
 content_below flit l h =
     let b = number_below (drop 56 flit) (drop_bytes 56 flit h) in
@@ -269,11 +261,10 @@ pub acceptable_is : (flit : List ℕ) → length flit ≡ 64 → AllBytes flit �
 unfolding acceptable fields_of
 acceptable_is flit l h e =
     let c = content_below flit l h in
-    let low = both_left (leb (content flit / 2 ^ 0 % 2 ^ 4) 8) (eqb (content flit / 2 ^ 18 % 2 ^ 46) 0) e in
-    let high = both_right (leb (content flit / 2 ^ 0 % 2 ^ 4) 8) (eqb (content flit / 2 ^ 18 % 2 ^ 46) 0) e in
+    let parts = and_parts (leb (content flit / 2 ^ 0 % 2 ^ 4) 8) (eqb (content flit / 2 ^ 18 % 2 ^ 46) 0) e in
     record {
-      run = leb-true (content flit / 2 ^ 0 % 2 ^ 4) 8 low;
-      small = omega (arith, eqb-true (content flit / 2 ^ 18 % 2 ^ 46) 0 high);
+      run = leb-true (content flit / 2 ^ 0 % 2 ^ 4) 8 parts.0;
+      small = omega (arith, eqb-true (content flit / 2 ^ 18 % 2 ^ 46) 0 parts.1);
     }
 
 -- the flit with another DL content

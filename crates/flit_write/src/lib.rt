@@ -2,37 +2,26 @@
 
 #![tactic(auto)]
 
-ghost use Rattle.std.specs.Prelude.{◌≡◌, ◌++◌, ◌+◌, ◌≤◌, take, drop};
-ghost use Rattle.crc.specs.Register.{table};
-ghost use Rattle.flit_read.specs.Bytes.{bit, bytes, mark};
-ghost use Rattle.flit_read.specs.Fields.{data_stalled};
+ghost use Rattle.std.specs.Prelude.{◌≡◌, ◌++◌, ◌+◌, ◌≤◌, if◌then◌else◌, take, drop};
 ghost use Rattle.flit_write.specs.Flits.{with_content as with_content_of, bare_control as bare_control_of, control_told as control_told_of, idle_flit as idle_flit_of, replay_flit as replay_flit_of};
 
 use flit_number::{FlitCount, LastReceived, SequenceNumber};
-use flit_read::{place, read};
+use flit_read::{Fields, copy, place, read};
 
-// The flit with the lowest `count` bytes of a number from byte `at` on.
-fn with_number(flit: [u8; 64], at: usize, count: usize, x: u64) -> [u8; 64]
-    requires { at + count ≤ 64 }
-    ensures { result ≡ take at flit ++ (bytes count x ++ drop (at + count) flit) }
+// The flit with other bytes from byte `at` on.
+fn with_bytes<const N: usize>(mut flit: [u8; 64], at: usize, part: [u8; N]) -> [u8; 64]
+    requires { at + N ≤ 64 }
+    ensures { result ≡ take at flit ++ (part.entry ++ drop (at + N) flit) }
 {
-    let mut f = flit;
-    let mut rest = x;
-    let mut i = 0;
-    while i < count {
-        let j = at + i;
-        f[j] = (rest % 256) as u8;
-        rest = rest / 256;
-        i += 1;
-    }
-    f
+    copy::put(&mut flit[at..at + N], part);
+    flit
 }
 
 // The flit with another DL content.
 fn with_content(flit: [u8; 64], c: u64) -> [u8; 64]
     ensures { result ≡ with_content_of flit c }
 {
-    with_number(flit, place::CONTENT, 8, c)
+    with_bytes(flit, place::CONTENT, c.to_le_bytes())
 }
 
 // A control flit with bits 63:18 zero.
@@ -43,11 +32,11 @@ pub fn bare_control(flit: [u8; 64]) -> [u8; 64]
     with_content(flit, c % place::SHORT_FLIT_NEXT)
 }
 
-// Data stalled as a part of a DL content.
-fn stall(stalled: bool) -> u64
-    ensures { result ≡ mark data_stalled stalled }
+// A bit as a part of a DL content: its place where it is set.
+fn mark(place: u64, set: bool) -> u64
+    ensures { result ≡ (if set then place else 0) }
 {
-    if stalled { place::DATA_STALLED } else { 0 }
+    if set { place } else { 0 }
 }
 
 // A control flit as it is sent, but for its check.
@@ -56,21 +45,23 @@ pub fn control_told(flit: [u8; 64], acks: FlitCount, stalled: bool) -> [u8; 64]
     ensures { result ≡ control_told_of flit acks.0 stalled }
 {
     let c = read::content(&flit);
-    let told = c % place::SHORT_FLIT_NEXT + stall(stalled) + place::ACK_COUNT * (acks.0 as u64);
+    let told = c % place::SHORT_FLIT_NEXT
+        + mark(place::DATA_STALLED, stalled)
+        + place::ACK_COUNT * (acks.0 as u64);
     with_content(flit, told)
 }
 
 // An idle flit.
-pub fn idle_flit(t: &[u64; 256], acks: FlitCount, stalled: bool, owed: FlitCount) -> [u8; 64]
-    requires { (t.now ≡ table) × (acks.0 ≤ 31) × (owed.0 ≤ 8) }
+pub fn idle_flit(acks: FlitCount, stalled: bool, owed: FlitCount) -> [u8; 64]
+    requires { (acks.0 ≤ 31) × (owed.0 ≤ 8) }
     ensures { result ≡ idle_flit_of acks.0 stalled owed.0 }
 {
-    let c = 15
+    let c = Fields::IDLE as u64
         + place::SECOND_RUN_LENGTH * (owed.0 as u64)
-        + stall(stalled)
+        + mark(place::DATA_STALLED, stalled)
         + place::ACK_COUNT * (acks.0 as u64);
     let mut flit = with_content([0u8; 64], c);
-    crc::seal_with(t, &mut flit);
+    crc::seal(&mut flit);
     flit
 }
 
@@ -86,29 +77,24 @@ pub struct Replay {
     pub nack: bool,
 }
 
-// NACK as a part of a DL content, where a replay flit's bit 116 is bit 20.
-fn nacked(nack: bool) -> u64
-    ensures { result ≡ mark (bit 20) nack }
-{
-    if nack { place::NACK } else { 0 }
-}
-
 // A replay flit.
-pub fn replay_flit(t: &[u64; 256], r: Replay) -> [u8; 64]
-    requires { (t.now ≡ table) × (r.previous.0 ≤ 8) }
+pub fn replay_flit(r: Replay) -> [u8; 64]
+    requires { r.previous.0 ≤ 8 }
     ensures { result ≡ replay_flit_of r }
 {
-    let previous = r.previous.0 as u64;
-    let errors = r.errors as u64;
-    let c = 10
-        + place::SECOND_RUN_LENGTH * previous
-        + place::LINK_ERRORS * errors
-        + stall(r.stalled)
-        + nacked(r.nack);
-    let told = with_number([0u8; 64], place::LINK_INFORMATION, 8, r.information);
-    let last = with_number(told, place::ACKNOWLEDGE_NUMBER, 2, r.last.0 as u64);
-    let start = with_number(last, place::STARTING_NUMBER, 2, r.start.0 as u64);
+    let c = Fields::REPLAY as u64
+        + place::SECOND_RUN_LENGTH * (r.previous.0 as u64)
+        + place::LINK_ERRORS * (r.errors as u64)
+        + mark(place::DATA_STALLED, r.stalled)
+        + mark(place::NACK, r.nack);
+    let told = with_bytes(
+        [0u8; 64],
+        place::LINK_INFORMATION,
+        r.information.to_le_bytes(),
+    );
+    let last = with_bytes(told, place::ACKNOWLEDGE_NUMBER, r.last.0.to_le_bytes());
+    let start = with_bytes(last, place::STARTING_NUMBER, r.start.0.to_le_bytes());
     let mut flit = with_content(start, c);
-    crc::seal_with(t, &mut flit);
+    crc::seal(&mut flit);
     flit
 }

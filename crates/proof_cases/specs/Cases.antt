@@ -1,6 +1,6 @@
 -- The bench cases (01, "Bench cases"): one table. Each case is said with the definitions that the contracts of the check, start, accept,
 -- send and receive cite: what the operation gives on a fresh end, or on one that is fresh but for the fields named.
-use Rattle.std.specs.Prelude.{◌≡◌, true, false, List, [], ◌∷◌, ◌++◌, ℕ, ◌*◌, take, drop, replicate}
+use Rattle.std.specs.Prelude.{◌≡◌, true, false, List, [], ◌∷◌, ◌++◌, ℕ, ◌*◌, take, drop, replicate, Result, Ok, Err}
 use Rattle.crc.specs.Unit.{right}
 use Rattle.crc.specs.Seal.{sealed}
 use Rattle.flit_read.specs.Bytes.{write}
@@ -9,11 +9,11 @@ use Rattle.flit_write.specs.Flits.{with_content, control_told}
 use Rattle.flit_read.specs.declared.Fields.{Fields}
 use Rattle.end_state.specs.State.{fresh, start}
 use Rattle.end_state.specs.Update.{with_untold, with_discards, with_cursor, with_wanted, with_position, with_pending, with_mode}
+use Rattle.end_state.specs.declared.Answered.{Answered}
 use Rattle.end_state.specs.declared.End.{End}
 use Rattle.end_state.specs.declared.Mode.TheVariants.{Run, Wait}
+use Rattle.end_state.specs.declared.Refusal.{Refusal}
 use Rattle.end_state.specs.declared.Refusal.TheVariants as refusal
-use Rattle.end_state.specs.declared.Verdict.{Verdict}
-use Rattle.end_state.specs.declared.Verdict.TheVariants.{Refused, Admitted}
 use Rattle.accept.specs.Accept.{accept}
 use Rattle.send_replay.specs.Replays.{replay_sent}
 use Rattle.send.specs.Send.{send, send_output}
@@ -21,7 +21,6 @@ use Rattle.receive_test.specs.Arrivals.{behind}
 use Rattle.receive_answer.specs.declared.Answer.{Answer}
 use Rattle.receive_answer.specs.declared.Answer.TheVariants as answer
 use Rattle.receive.specs.Receive.{receive}
-use Rattle.receive.specs.declared.Received.{Received}
 
 -- ---- the flits of the cases
 
@@ -60,11 +59,11 @@ discarding n = with_mode Wait (with_discards n (fresh 9))
 abbrev pub store : List ℕ
 store = replicate (64 * 9) 0
 
-abbrev pub start_answers : ℕ → Verdict
-start_answers capacity = (start (64 * capacity)).verdict
+abbrev pub start_answers : ℕ → Result (Unit {0}) Refusal
+start_answers capacity = (start (64 * capacity)).answer
 
-abbrev pub accept_answers : List ℕ → Verdict
-accept_answers unit = (accept (fresh 9) store unit).verdict
+abbrev pub accept_answers : List ℕ → Result (Unit {0}) Refusal
+accept_answers unit = (accept (fresh 9) store unit).answer
 
 -- what is read of the first flit that an end sends, and the end then
 abbrev pub first_sent : End → Fields
@@ -73,10 +72,10 @@ first_sent e = fields_of (take 64 (send_output e store (replicate 640 0) 0 0))
 abbrev pub end_sent : End → End
 end_sent e = (send e store 640).end
 
-abbrev pub receive_answers : End → List ℕ → Received
+abbrev pub receive_answers : End → List ℕ → Answered Answer
 receive_answers e flit = receive e store (replicate 576 0) flit
 
-abbrev pub gives : Answer → End → Received
+abbrev pub gives : Answer → End → Answered Answer
 gives answer end = record { answer = answer; end = end }
 
 -- ---- the table
@@ -98,11 +97,11 @@ pub record BenchCases : Type 0 where
   pub case_6 : (behind (wanting 5) 6 ≡ 65535)
       × (receive_answers (wanting 5) (replay_from 6) ≡ gives answer.Ahead (with_mode Wait (with_pending true (with_position 6 (wanting 5)))))
   -- 7. "C = 8 refused, 9 not."
-  pub case_7 : (start_answers 8 ≡ Refused refusal.Store) × (start_answers 9 ≡ Admitted)
+  pub case_7 : (start_answers 8 ≡ Err refusal.Store) × (start_answers 9 ≡ Ok tt)
   -- 8. "C = 1,024 not, 1,025 refused."
-  pub case_8 : (start_answers 1024 ≡ Admitted) × (start_answers 1025 ≡ Refused refusal.Store)
+  pub case_8 : (start_answers 1024 ≡ Ok tt) × (start_answers 1025 ≡ Err refusal.Store)
   -- 9. "Run length 8 accepted, 9 FIELD."
-  pub case_9 : (accept_answers (control_flit 8) ≡ Admitted) × (accept_answers (control_flit 9) ≡ Refused refusal.Field)
+  pub case_9 : (accept_answers (control_flit 8) ≡ Ok tt) × (accept_answers (control_flit 9) ≡ Err refusal.Field)
   -- 10. "Untold 40: idle 31, next 9." Untold falls to 9, then to 0.
   pub case_10 : ((first_sent (untold 40)).run.0 ≡ idle_kind)
       × ((first_sent (untold 40)).acks.0 ≡ 31)

@@ -6,8 +6,8 @@ use mathlib.Core.List.{List, [], ◌∷◌, ◌++◌}
 use Prim.Native.Nat.{ℕ, suc, ◌≤◌}
 use native.Mathlib.Omega.{arith}
 use Rattle.proof_model.proofs.Stream.{Bytes, Stream, owed, some, Flit, Item, part, control, idle, replay}
-use Rattle.proof_model.proofs.End.{Mode, run, wait, Sender, End}
-use Rattle.proof_model.proofs.Step.{accept, item, carried, is_waiting, Send, replays, alone, burst, idles, Discard, more, enough, Acked, keeps, passes, nacked, Receive, holds, delivers, repeats, idling, damaged, replayed, ahead_run, ahead_wait, discards, falls}
+use Rattle.proof_model.proofs.End.{run, no_wait, Sender, End}
+use Rattle.proof_model.proofs.Step.{accept, item, carried, is_waiting, Send, replays, alone, burst, idles, Discard, more, enough, Acked, keeps, passes, nacked, Wrong, Receive, holds, delivers, repeats, idling, damaged, replayed, ahead_run, ahead_wait, discards, falls}
 use Rattle.proof_model.proofs.Num.{num_of_le}
 use Rattle.proof_model.proofs.Chain.{Chain, after, final, final_append}
 use Rattle.proof_model.proofs.Inv.{Inv}
@@ -18,10 +18,8 @@ Whole b = b ≡ true
 
 -- each flit is whole, and a replay starts where the wire stands
 abbrev pub Goes : Chain → Flit → Type 0
-Goes c (part x) = Unit {0}
-Goes c (control b n k st) = Unit {0}
-Goes c (idle k st n) = Unit {0}
 Goes c (replay na p n st t) = p ≡ c.pos
+Goes c _ = Unit {0}
 
 abbrev pub Straight : Chain → List Item → Type 0
 Straight c [] = Unit {0}
@@ -29,10 +27,8 @@ Straight c (x ∷ l) = (x.ok ≡ true) × Goes c x.flit × Straight (after c x) 
 
 -- no replay flit asks for a replay
 abbrev pub Asks : Flit → Type 0
-Asks (part x) = Unit {0}
-Asks (control b n k st) = Unit {0}
-Asks (idle k st n) = Unit {0}
 Asks (replay na p n st t) = na ≡ false
+Asks _ = Unit {0}
 
 abbrev pub Silent : List Item → Type 0
 Silent [] = Unit {0}
@@ -137,10 +133,7 @@ pub record Follows (p : End) (c : Chain) : Type 0 where
   pub next : p.r.position ≡ p.r.wanted
   pub here : c.pos ≡ p.r.wanted
 
-no_wait : {m : Mode} → m ≡ run → m ≡ wait → ⊥
-no_wait h k = let z : ◌≡◌ {A = ℕ} 0 1 = cc in omega arith
-
-follows : (g : Stream) (p p' : End) (c : Chain) (x : Item) → x.ok ≡ true → Goes c x.flit → Follows p c → ¬ Rattle.proof_model.proofs.Step.Wrong g p x
+follows : (g : Stream) (p p' : End) (c : Chain) (x : Item) → x.ok ≡ true → Goes c x.flit → Follows p c → ¬ Wrong g p x
     → Receive g p x p' → Follows p' (after c x)
 follows g p p' c x o s h w (holds m q) = record { mode = h.mode; next = h.next; here = h.here }
 follows g p p' c x o s h w (delivers m q e a) = record { mode = h.mode; next = ap suc h.next; here = ap suc h.here }

@@ -1,11 +1,16 @@
 -- One end of the abstract link: what it keeps to send, and what it keeps of receiving.
+use mathlib.Core.Path.{◌≡◌}
 use mathlib.Core.Bool.{Bool, false}
 use mathlib.Core.List.{List, []}
 use Prim.Native.Nat.{ℕ}
+use native.Mathlib.Omega.{arith}
 use Rattle.proof_model.proofs.Stream.{Bytes, Block}
 
 pub data Mode : Type 0 where
   run wait down : Mode
+
+pub no_wait : {m : Mode} → m ≡ run → m ≡ wait → ⊥
+no_wait h k = let z : ◌≡◌ {A = ℕ} 0 1 = cc in omega arith
 
 -- what it sends; borders in units, acked in flits
 pub record Sender : Type 0 where

@@ -7,9 +7,9 @@ use Prim.Native.Nat.{ℕ, suc, ◌≤◌}
 use native.Mathlib.Omega.{arith}
 use lib.ListN.{length}
 use Rattle.proof_model.proofs.Stream.{Stream, owed, some, Flit, Item, part, control, idle, replay}
-use Rattle.proof_model.proofs.End.{Mode, run, wait, down, Receiver, End}
+use Rattle.proof_model.proofs.End.{Mode, run, wait, down, no_wait, Receiver, End}
 use Rattle.proof_model.proofs.Step.{Send, replays, alone, burst, idles, Receive, holds, delivers, repeats, idling, damaged, replayed, ahead_run, ahead_wait, discards, falls}
-use Rattle.proof_model.proofs.Chain.{Chain, Wire}
+use Rattle.proof_model.proofs.Chain.{Chain, final, Rest, Fit, Wire}
 use Rattle.proof_model.proofs.Inv.{At, Runs}
 use Rattle.proof_model.proofs.Receive
 use Rattle.proof_model.proofs.Receive.{Given}
@@ -17,9 +17,6 @@ use Rattle.proof_model.proofs.Receive.{Given}
 pub record Tidy (r : Receiver) : Type 0 where
   pub waits : r.mode ≡ wait → r.hold ≡ []
   pub owes : r.owes ≤ 8
-
-no_wait : {m : Mode} → m ≡ run → m ≡ wait → ⊥
-no_wait h k = let z : ◌≡◌ {A = ℕ} 0 1 = cc in omega arith
 
 pub tidy_send : {Ok : Bool → Type 0} {f g : Stream} {e e' : End} {b : List Item} → Tidy e.r → Send Ok f g e b e' → Tidy e'.r
 tidy_send h (replays x y m p) = record { waits = h.waits; owes = h.owes }
@@ -60,7 +57,7 @@ pub record Framed (r : Receiver) : Type 0 where
   pub data_le : length r.hold ≤ r.owes
   pub none : r.stalled ≡ true → r.hold ≡ []
 
-at_flit : (C : ℕ) (g : Stream) (d : Chain) (x : Flit) (ok : Bool) (lo hi a : ℕ) (r : Receiver) → Rattle.proof_model.proofs.Chain.Fit g d x ok lo hi → Runs g d a r
+at_flit : (C : ℕ) (g : Stream) (d : Chain) (x : Flit) (ok : Bool) (lo hi a : ℕ) (r : Receiver) → Fit g d x ok lo hi → Runs g d a r
     → Framed r
 at_flit C g d (part x) ok lo hi a r i u =
     record { data_le = rw (u.hold, u.owes) (omega (arith, i.room)); none = λ z. absurd (true≢false (sym z ∙ u.bit ∙ i.bit)) }
@@ -74,10 +71,10 @@ at_flit C g d (replay na p n st t) ok lo hi a r i u =
     record { data_le = rw e (omega arith); none = λ z. e }
 
 pub framed : (C : ℕ) (g : Stream) (d : Chain) (m : List Item) (a : ℕ) (r : Receiver) → Wire C g d m
-    → Rattle.proof_model.proofs.Chain.Rest g (Rattle.proof_model.proofs.Chain.final d m) → At g d a r r.mode → Tidy r → Framed r
+    → Rest g (final d m) → At g d a r r.mode → Tidy r → Framed r
 framed C g d m a r w e h t = go r.mode refl
   where
-    run_case : (m : List Item) → Wire C g d m → Rattle.proof_model.proofs.Chain.Rest g (Rattle.proof_model.proofs.Chain.final d m) → Runs g d a r → Framed r
+    run_case : (m : List Item) → Wire C g d m → Rest g (final d m) → Runs g d a r → Framed r
     run_case [] w e u = let z : r.hold ≡ [] = u.hold ∙ e.none in record { data_le = rw z (omega arith); none = λ y. z }
     run_case (x ∷ m) w e u = at_flit C g d x.flit x.ok x.lo x.hi a r w.0.fit u
 

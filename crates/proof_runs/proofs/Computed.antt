@@ -18,6 +18,7 @@ use Rattle.end_state.specs.State as state
 use Rattle.end_state.specs.Ring as ring
 use Rattle.end_state.specs.Ring.{flit_at}
 use Rattle.end_state.specs.Refusals as refusals
+use Rattle.end_state.proofs.Tests.{and_l, and_r}
 use Rattle.accept_verdict.specs.Admission as admission
 use Rattle.accept.specs.Accept as accept
 use Rattle.send_unit.specs.Units as units
@@ -44,34 +45,32 @@ use Rattle.proof_wire.proofs.Acceptance.{third_test}
 
 -- ---- small tests
 
+-- what a proof unfolds to compute the operations on literals, and to test what arrives
+unfoldable operations : Unit {0}
+unfolding numbers.acknowledge_for numbers.after numbers.difference numbers.wanted_by unit.bits unit.polynomial unit.right seal.check_of seal.sealed seal.with_check bytes.bytes bytes.number fields.acceptable fields.fields_of flits.bare_control flits.control_told flits.idle_flit flits.replay_flit state.fresh state.start state.store_fits ring.walk_begun ring.flit_at ring.passed ring.ring_place ring.put_at ring.walk_over refusals.counts_sound refusals.numbers_sound refusals.sound refusals.store_is refusals.units_sound accept.accept accept.accept_store admission.unit_shaped admission.accept_verdict accept.flits_stored burst.burst burst.burst_flits moves.moved replays.replay_sent send.send send.send_output units.stored_flits units.unit_sent send.send_verdict arrivals.closes arrivals.damaged arrivals.holds arrivals.run_wrong arrivals.newly_covered arrivals.past_sent answers.plain_answer answers.replay_answer answers.run_answer arrivals.skips arrivals.stall_wrong arrivals.straddles answers.wait_answer acknowledge.acknowledged acknowledge.freed acknowledge.last_border receive.answer_to taken.closed taken.delivered effects.discarded effects.end_after receive.hold_after receive.receive receive.receive_hold taken.replay_taken receive.receive_verdict effects.waiting damage.reads_replay damage.sent_replay damage.units_of system.on_the_way fresh_pair blank_output
+operations = tt
+
+unfoldable tests : Unit {0}
+unfolding ring.flit_at unit.bits unit.polynomial unit.right fields.fields_of bytes.number reads_replay sent_replay
+tests = tt
+
 abbrev all_bytes : List ℕ → Bool
 all_bytes [] = true
 all_bytes (b ∷ bs) = ltb b 256 && all_bytes bs
-
-and_l : (a b : Bool) → (a && b) ≡ true → a ≡ true
-and_l true b h = refl
-and_l false b h = h
-
-and_r : (a b : Bool) → (a && b) ≡ true → b ≡ true
-and_r true b h = h
-and_r false true h = refl
-and_r false false h = h
 
 bytes_tested : (bs : List ℕ) → all_bytes bs ≡ true → AllBytes bs
 bytes_tested [] h i = omega arith
 bytes_tested (b ∷ bs) h zero = ltb-true b 256 (and_l (ltb b 256) (all_bytes bs) h)
 bytes_tested (b ∷ bs) h (suc i) = bytes_tested bs (and_r (ltb b 256) (all_bytes bs) h) i
 
--- past a flit there is none
-none_after : (v : List ℕ) → length v ≡ 64 → (i : ℕ) → reads_replay (flit_at v (suc i)) ≡ false
-unfolding ring.flit_at reads_replay fields.fields_of bytes.number unit.right unit.bits unit.polynomial
-none_after v h i =
-    let e : length v ≤ suc i * 64 = omega arith in
-    ap (λ (x : List ℕ). reads_replay (take 64 x)) (drop_of_length-le v {i = suc i * 64} e)
+-- past the flits there is none
+none_past : (v : List ℕ) (i : ℕ) → length v ≤ i * 64 → reads_replay (flit_at v i) ≡ false
+unfolding tests
+none_past v i h = ap (λ (x : List ℕ). reads_replay (take 64 x)) (drop_of_length-le v {i = i * 64} h)
 
 no_replay : (u v : List ℕ) → length v ≡ 64 → reads_replay v ≡ false → NoReplay u v
 no_replay u v h r s zero = ap reads_replay (flit_alone v h) ∙ r
-no_replay u v h r s (suc i) = none_after v h i
+no_replay u v h r s (suc i) = none_past v (suc i) (omega arith)
 
 -- what arrives as it was sent: a flit that is no replay flit, and one that is; and one with an odd number of bits altered
 same : (u : List ℕ) → length u ≡ 64 → reads_replay u ≡ false → Arrives u u
@@ -84,23 +83,23 @@ altered : (u v : List ℕ) → length u ≡ 64 → length v ≡ 64 → all_bytes
 altered u v h k b o r = record { damage = odd_bits (k ∙ sym h) (bytes_tested v b) o; no_replay = no_replay u v k r }
 
 a_arrives : Arrives a_sent a_sent
-unfolding unit.bits unit.polynomial unit.right fields.fields_of bytes.number reads_replay sent_replay a_sent
+unfolding tests a_sent
 a_arrives = same a_sent refl refl
 
 a_altered : Arrives a_sent a_hurt
-unfolding unit.bits unit.polynomial unit.right fields.fields_of bytes.number reads_replay sent_replay a_sent a_hurt
+unfolding tests a_sent a_hurt
 a_altered = altered a_sent a_hurt refl refl refl refl refl
 
 b_arrives : Arrives b_sent b_sent
-unfolding unit.bits unit.polynomial unit.right fields.fields_of bytes.number reads_replay sent_replay b_sent
+unfolding tests b_sent
 b_arrives = same b_sent refl refl
 
 asks_arrives : Arrives asks asks
-unfolding unit.bits unit.polynomial unit.right fields.fields_of bytes.number reads_replay sent_replay asks
+unfolding tests asks
 asks_arrives = same_replay asks refl
 
 starts_arrives : Arrives starts starts
-unfolding unit.bits unit.polynomial unit.right fields.fields_of bytes.number reads_replay sent_replay starts
+unfolding tests starts
 starts_arrives = same_replay starts refl
 
 unit_a_bytes : AllBytes unit_a
@@ -138,7 +137,7 @@ outcome_seen es s l o h = ap (λ (t : List Answer × System). outcome t.1) (sym 
 -- ---- a run with everything in it
 
 pub full_fair : Fair full_run fresh_pair
-unfolding numbers.acknowledge_for numbers.after numbers.difference numbers.wanted_by unit.bits unit.polynomial unit.right seal.check_of seal.sealed seal.with_check bytes.bytes bytes.number fields.acceptable fields.fields_of flits.bare_control flits.control_told flits.idle_flit flits.replay_flit state.fresh state.start state.store_fits ring.walk_begun ring.flit_at ring.passed ring.ring_place ring.put_at ring.walk_over refusals.counts_sound refusals.numbers_sound refusals.sound refusals.store_is refusals.units_sound accept.accept accept.accept_store admission.unit_shaped admission.accept_verdict accept.flits_stored burst.burst burst.burst_flits moves.moved replays.replay_sent send.send send.send_output units.stored_flits units.unit_sent send.send_verdict arrivals.closes arrivals.damaged arrivals.holds arrivals.run_wrong arrivals.newly_covered arrivals.past_sent answers.plain_answer answers.replay_answer answers.run_answer arrivals.skips arrivals.stall_wrong arrivals.straddles answers.wait_answer acknowledge.acknowledged acknowledge.freed acknowledge.last_border receive.answer_to taken.closed taken.delivered effects.discarded effects.end_after receive.hold_after receive.receive receive.receive_hold taken.replay_taken receive.receive_verdict effects.waiting damage.reads_replay damage.sent_replay damage.units_of system.on_the_way fresh_pair blank_output unit_a unit_b a_sent a_hurt b_sent asks starts full_run
+unfolding operations unit_a unit_b a_sent a_hurt b_sent asks starts full_run
 full_fair =
     (unit_a_bytes, ((omega arith, omega arith, (a_altered, tt)), (tt, ((omega arith, omega arith, (asks_arrives, (asks_arrives, tt))), (tt, ((omega arith, omega arith, (starts_arrives, (starts_arrives, tt))), ((omega arith, omega arith, (a_arrives, tt)), (tt, (tt, (tt, (tt, ((omega arith, omega arith, (starts_arrives, (starts_arrives, tt))), ((omega arith, omega arith, (a_arrives, tt)), (tt, (tt, (tt, (unit_b_bytes, ((omega arith, omega arith, (b_arrives, tt)), (tt, tt)))))))))))))))))))
 
@@ -148,7 +147,7 @@ full_told =
     ∷ answer.Duplicate ∷ answer.Delivered (record { 0 = 0 }) ∷ []
 
 full_shown : shown (seen full_run fresh_pair []) ≡ (full_told, (unit_a ∷ [], unit_b ∷ [], unit_a ∷ []))
-unfolding numbers.acknowledge_for numbers.after numbers.difference numbers.wanted_by unit.bits unit.polynomial unit.right seal.check_of seal.sealed seal.with_check bytes.bytes bytes.number fields.acceptable fields.fields_of flits.bare_control flits.control_told flits.idle_flit flits.replay_flit state.fresh state.start state.store_fits ring.walk_begun ring.flit_at ring.passed ring.ring_place ring.put_at ring.walk_over refusals.counts_sound refusals.numbers_sound refusals.sound refusals.store_is refusals.units_sound accept.accept accept.accept_store admission.unit_shaped admission.accept_verdict accept.flits_stored burst.burst burst.burst_flits moves.moved replays.replay_sent send.send send.send_output units.stored_flits units.unit_sent send.send_verdict arrivals.closes arrivals.damaged arrivals.holds arrivals.run_wrong arrivals.newly_covered arrivals.past_sent answers.plain_answer answers.replay_answer answers.run_answer arrivals.skips arrivals.stall_wrong arrivals.straddles answers.wait_answer acknowledge.acknowledged acknowledge.freed acknowledge.last_border receive.answer_to taken.closed taken.delivered effects.discarded effects.end_after receive.hold_after receive.receive receive.receive_hold taken.replay_taken receive.receive_verdict effects.waiting damage.reads_replay damage.sent_replay damage.units_of system.on_the_way fresh_pair blank_output unit_a unit_b a_sent a_hurt b_sent asks starts full_run
+unfolding operations unit_a unit_b a_sent a_hurt b_sent asks starts full_run
 full_shown = refl
 
 -- what it answers: damaged, replayed, delivered, duplicate, and a delivery the other way
@@ -170,17 +169,10 @@ full_demand = third_test (replicate 576 0) (replicate 576 0) (replicate 576 0) (
 
 -- ---- data, and damage across two flits
 
--- past two flits there is none
-none_after_two : (v : List ℕ) → length v ≡ 128 → (i : ℕ) → reads_replay (flit_at v (suc (suc i))) ≡ false
-unfolding ring.flit_at reads_replay fields.fields_of bytes.number unit.right unit.bits unit.polynomial
-none_after_two v h i =
-    let e : length v ≤ suc (suc i) * 64 = omega arith in
-    ap (λ (x : List ℕ). reads_replay (take 64 x)) (drop_of_length-le v {i = suc (suc i) * 64} e)
-
 no_replay_two : (u v : List ℕ) → length v ≡ 128 → reads_replay (flit_at v 0) ≡ false → reads_replay (flit_at v 1) ≡ false → NoReplay u v
 no_replay_two u v h r t s zero = r
 no_replay_two u v h r t s (suc zero) = t
-no_replay_two u v h r t s (suc (suc i)) = none_after_two v h i
+no_replay_two u v h r t s (suc (suc i)) = none_past v (suc (suc i)) (omega arith)
 
 data_1 : AllBytes unit_1
 unfolding unit_1
@@ -195,19 +187,19 @@ unfolding unit_3
 data_3 = bytes_tested unit_3 refl
 
 arrives_1 : Arrives sent_1 sent_1
-unfolding ring.flit_at unit.bits unit.polynomial unit.right fields.fields_of bytes.number reads_replay sent_replay sent_1
+unfolding tests sent_1
 arrives_1 = same sent_1 refl refl
 
 arrives_idle : Arrives idle_sent idle_sent
-unfolding ring.flit_at unit.bits unit.polynomial unit.right fields.fields_of bytes.number reads_replay sent_replay idle_sent
+unfolding tests idle_sent
 arrives_idle = same idle_sent refl refl
 
 arrives_2 : Arrives sent_2 sent_2
-unfolding ring.flit_at unit.bits unit.polynomial unit.right fields.fields_of bytes.number reads_replay sent_replay sent_2
+unfolding tests sent_2
 arrives_2 = record { damage = unaltered refl; no_replay = no_replay_two sent_2 sent_2 refl refl refl }
 
 altered_3 : Arrives sent_3 hurt_3
-unfolding ring.flit_at unit.bits unit.polynomial unit.right fields.fields_of bytes.number reads_replay sent_replay sent_3 hurt_3
+unfolding tests sent_3 hurt_3
 altered_3 =
     record {
       damage =
@@ -217,7 +209,7 @@ altered_3 =
     }
 
 pub data_fair : Fair data_run fresh_pair
-unfolding numbers.acknowledge_for numbers.after numbers.difference numbers.wanted_by unit.bits unit.polynomial unit.right seal.check_of seal.sealed seal.with_check bytes.bytes bytes.number fields.acceptable fields.fields_of flits.bare_control flits.control_told flits.idle_flit flits.replay_flit state.fresh state.start state.store_fits ring.walk_begun ring.flit_at ring.passed ring.ring_place ring.put_at ring.walk_over refusals.counts_sound refusals.numbers_sound refusals.sound refusals.store_is refusals.units_sound accept.accept accept.accept_store admission.unit_shaped admission.accept_verdict accept.flits_stored burst.burst burst.burst_flits moves.moved replays.replay_sent send.send send.send_output units.stored_flits units.unit_sent send.send_verdict arrivals.closes arrivals.damaged arrivals.holds arrivals.run_wrong arrivals.newly_covered arrivals.past_sent answers.plain_answer answers.replay_answer answers.run_answer arrivals.skips arrivals.stall_wrong arrivals.straddles answers.wait_answer acknowledge.acknowledged acknowledge.freed acknowledge.last_border receive.answer_to taken.closed taken.delivered effects.discarded effects.end_after receive.hold_after receive.receive receive.receive_hold taken.replay_taken receive.receive_verdict effects.waiting damage.reads_replay damage.sent_replay damage.units_of system.on_the_way fresh_pair blank_output unit_1 unit_2 unit_3 idle_sent sent_1 sent_2 sent_3 hurt_3 data_run
+unfolding operations unit_1 unit_2 unit_3 idle_sent sent_1 sent_2 sent_3 hurt_3 data_run
 data_fair =
     (data_1, (data_2, (data_3, ((omega arith, omega arith, (arrives_1, tt)), ((omega arith, omega arith, (arrives_idle, (arrives_2, tt))), ((omega arith, omega arith, (arrives_idle, (altered_3, tt))), (tt, (tt, (tt, (tt, (tt, (tt, (tt, tt)))))))))))))
 
@@ -226,7 +218,7 @@ data_told =
     answer.Delivered (record { 0 = 0 }) ∷ answer.Idle ∷ answer.Held ∷ answer.Delivered (record { 0 = 1 }) ∷ answer.Idle ∷ answer.Held ∷ answer.Damaged ∷ []
 
 data_shown : shown (seen data_run fresh_pair []) ≡ (data_told, (unit_1 ∷ unit_2 ∷ [], [], unit_1 ∷ unit_2 ∷ unit_3 ∷ []))
-unfolding numbers.acknowledge_for numbers.after numbers.difference numbers.wanted_by unit.bits unit.polynomial unit.right seal.check_of seal.sealed seal.with_check bytes.bytes bytes.number fields.acceptable fields.fields_of flits.bare_control flits.control_told flits.idle_flit flits.replay_flit state.fresh state.start state.store_fits ring.walk_begun ring.flit_at ring.passed ring.ring_place ring.put_at ring.walk_over refusals.counts_sound refusals.numbers_sound refusals.sound refusals.store_is refusals.units_sound accept.accept accept.accept_store admission.unit_shaped admission.accept_verdict accept.flits_stored burst.burst burst.burst_flits moves.moved replays.replay_sent send.send send.send_output units.stored_flits units.unit_sent send.send_verdict arrivals.closes arrivals.damaged arrivals.holds arrivals.run_wrong arrivals.newly_covered arrivals.past_sent answers.plain_answer answers.replay_answer answers.run_answer arrivals.skips arrivals.stall_wrong arrivals.straddles answers.wait_answer acknowledge.acknowledged acknowledge.freed acknowledge.last_border receive.answer_to taken.closed taken.delivered effects.discarded effects.end_after receive.hold_after receive.receive receive.receive_hold taken.replay_taken receive.receive_verdict effects.waiting damage.reads_replay damage.sent_replay damage.units_of system.on_the_way fresh_pair blank_output unit_1 unit_2 unit_3 idle_sent sent_1 sent_2 sent_3 hurt_3 data_run
+unfolding operations unit_1 unit_2 unit_3 idle_sent sent_1 sent_2 sent_3 hurt_3 data_run
 data_shown = refl
 
 pub data_answers : answers_in data_run fresh_pair
@@ -257,12 +249,12 @@ unfolding lures closes_lure
 lure_bytes = bytes_tested (lures ++ closes_lure) refl
 
 pub lured_fair : FairBy (Damage window_bits) lured_run fresh_pair
-unfolding numbers.acknowledge_for numbers.after numbers.difference numbers.wanted_by unit.bits unit.polynomial unit.right seal.check_of seal.sealed seal.with_check bytes.bytes bytes.number fields.acceptable fields.fields_of flits.bare_control flits.control_told flits.idle_flit flits.replay_flit state.fresh state.start state.store_fits ring.walk_begun ring.flit_at ring.passed ring.ring_place ring.put_at ring.walk_over refusals.counts_sound refusals.numbers_sound refusals.sound refusals.store_is refusals.units_sound accept.accept accept.accept_store admission.unit_shaped admission.accept_verdict accept.flits_stored burst.burst burst.burst_flits moves.moved replays.replay_sent send.send send.send_output units.stored_flits units.unit_sent send.send_verdict arrivals.closes arrivals.damaged arrivals.holds arrivals.run_wrong arrivals.newly_covered arrivals.past_sent answers.plain_answer answers.replay_answer answers.run_answer arrivals.skips arrivals.stall_wrong arrivals.straddles answers.wait_answer acknowledge.acknowledged acknowledge.freed acknowledge.last_border receive.answer_to taken.closed taken.delivered effects.discarded effects.end_after receive.hold_after receive.receive receive.receive_hold taken.replay_taken receive.receive_verdict effects.waiting damage.reads_replay damage.sent_replay damage.units_of system.on_the_way fresh_pair blank_output owes_one lures closes_lure owes_sent owes_hurt idle_sent lure_sent lured_run
+unfolding operations owes_one lures closes_lure owes_sent owes_hurt idle_sent lure_sent lured_run
 lured_fair =
     (owes_bytes, (lure_bytes, ((omega arith, omega arith, (owes_altered, tt)), ((omega arith, omega arith, (unaltered refl, (unaltered refl, tt))), (tt, (tt, (tt, (tt, tt))))))))
 
 pub lured_outcome : outcome (run lured_run fresh_pair) ≡ (closes_lure ∷ [], [], owes_one ∷ (lures ++ closes_lure) ∷ [])
-unfolding numbers.acknowledge_for numbers.after numbers.difference numbers.wanted_by unit.bits unit.polynomial unit.right seal.check_of seal.sealed seal.with_check bytes.bytes bytes.number fields.acceptable fields.fields_of flits.bare_control flits.control_told flits.idle_flit flits.replay_flit state.fresh state.start state.store_fits ring.walk_begun ring.flit_at ring.passed ring.ring_place ring.put_at ring.walk_over refusals.counts_sound refusals.numbers_sound refusals.sound refusals.store_is refusals.units_sound accept.accept accept.accept_store admission.unit_shaped admission.accept_verdict accept.flits_stored burst.burst burst.burst_flits moves.moved replays.replay_sent send.send send.send_output units.stored_flits units.unit_sent send.send_verdict arrivals.closes arrivals.damaged arrivals.holds arrivals.run_wrong arrivals.newly_covered arrivals.past_sent answers.plain_answer answers.replay_answer answers.run_answer arrivals.skips arrivals.stall_wrong arrivals.straddles answers.wait_answer acknowledge.acknowledged acknowledge.freed acknowledge.last_border receive.answer_to taken.closed taken.delivered effects.discarded effects.end_after receive.hold_after receive.receive receive.receive_hold taken.replay_taken receive.receive_verdict effects.waiting damage.reads_replay damage.sent_replay damage.units_of system.on_the_way fresh_pair blank_output owes_one lures closes_lure owes_sent owes_hurt idle_sent lure_sent lured_run
+unfolding operations owes_one lures closes_lure owes_sent owes_hurt idle_sent lure_sent lured_run
 lured_outcome = refl
 
 pub replay_premise_needed : FirstPart (run lured_run fresh_pair).b.handed (run lured_run fresh_pair).a.accepted → ⊥
@@ -278,18 +270,18 @@ unfolding no_unit
 no_unit_bytes = bytes_tested no_unit refl
 
 wider : Wider no_unit stretched
-unfolding unit.bits unit.polynomial unit.right fields.fields_of bytes.number reads_replay no_unit stretched
+unfolding tests no_unit stretched
 wider = (
   near_bits refl (bytes_tested stretched refl) (record { before = 0; window = unit.polynomial; after = 475; narrow = omega arith; only = refl }),
   no_replay no_unit stretched refl refl,
 )
 
 pub stretched_fair : FairBy Wider stretched_run fresh_pair
-unfolding numbers.acknowledge_for numbers.after numbers.difference numbers.wanted_by unit.bits unit.polynomial unit.right seal.check_of seal.sealed seal.with_check bytes.bytes bytes.number fields.acceptable fields.fields_of flits.bare_control flits.control_told flits.idle_flit flits.replay_flit state.fresh state.start state.store_fits ring.walk_begun ring.flit_at ring.passed ring.ring_place ring.put_at ring.walk_over refusals.counts_sound refusals.numbers_sound refusals.sound refusals.store_is refusals.units_sound accept.accept accept.accept_store admission.unit_shaped admission.accept_verdict accept.flits_stored burst.burst burst.burst_flits moves.moved replays.replay_sent send.send send.send_output units.stored_flits units.unit_sent send.send_verdict arrivals.closes arrivals.damaged arrivals.holds arrivals.run_wrong arrivals.newly_covered arrivals.past_sent answers.plain_answer answers.replay_answer answers.run_answer arrivals.skips arrivals.stall_wrong arrivals.straddles answers.wait_answer acknowledge.acknowledged acknowledge.freed acknowledge.last_border receive.answer_to taken.closed taken.delivered effects.discarded effects.end_after receive.hold_after receive.receive receive.receive_hold taken.replay_taken receive.receive_verdict effects.waiting damage.reads_replay damage.sent_replay damage.units_of system.on_the_way fresh_pair blank_output no_unit stretched stretched_run
+unfolding operations no_unit stretched stretched_run
 stretched_fair = (no_unit_bytes, ((omega arith, omega arith, (wider, tt)), (tt, tt)))
 
 pub stretched_outcome : outcome (run stretched_run fresh_pair) ≡ (stretched ∷ [], [], no_unit ∷ [])
-unfolding numbers.acknowledge_for numbers.after numbers.difference numbers.wanted_by unit.bits unit.polynomial unit.right seal.check_of seal.sealed seal.with_check bytes.bytes bytes.number fields.acceptable fields.fields_of flits.bare_control flits.control_told flits.idle_flit flits.replay_flit state.fresh state.start state.store_fits ring.walk_begun ring.flit_at ring.passed ring.ring_place ring.put_at ring.walk_over refusals.counts_sound refusals.numbers_sound refusals.sound refusals.store_is refusals.units_sound accept.accept accept.accept_store admission.unit_shaped admission.accept_verdict accept.flits_stored burst.burst burst.burst_flits moves.moved replays.replay_sent send.send send.send_output units.stored_flits units.unit_sent send.send_verdict arrivals.closes arrivals.damaged arrivals.holds arrivals.run_wrong arrivals.newly_covered arrivals.past_sent answers.plain_answer answers.replay_answer answers.run_answer arrivals.skips arrivals.stall_wrong arrivals.straddles answers.wait_answer acknowledge.acknowledged acknowledge.freed acknowledge.last_border receive.answer_to taken.closed taken.delivered effects.discarded effects.end_after receive.hold_after receive.receive receive.receive_hold taken.replay_taken receive.receive_verdict effects.waiting damage.reads_replay damage.sent_replay damage.units_of system.on_the_way fresh_pair blank_output no_unit stretched stretched_run
+unfolding operations no_unit stretched stretched_run
 stretched_outcome = refl
 
 pub window_sharp : FirstPart (run stretched_run fresh_pair).b.handed (run stretched_run fresh_pair).a.accepted → ⊥

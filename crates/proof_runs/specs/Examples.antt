@@ -19,12 +19,9 @@ abbrev pub answer_of_a : System → List Answer
 answer_of_a s = cond (on_the_way s.ba) ((receive s.a.end s.a.store s.a.hold (oldest_flit s.ba)).answer ∷ []) []
 
 abbrev pub answer_in : Event → System → List Answer
-answer_in (of_a (accepts unit)) s = []
-answer_in (of_a (sends errors information out arrivals)) s = []
 answer_in (of_a receives) s = answer_of_a s
-answer_in (of_b (accepts unit)) s = []
-answer_in (of_b (sends errors information out arrivals)) s = []
 answer_in (of_b receives) s = answer_of_a (turned s)
+answer_in _ s = []
 
 abbrev pub answers_in : List Event → System → List Answer
 answers_in [] s = []

@@ -6,26 +6,29 @@ use mathlib.Core.List.{List, [], ◌∷◌, ◌++◌, map}
 use Prim.Native.Nat.{ℕ, zero, suc, ◌+◌, ◌-◌, ◌*◌, ◌≤◌, ◌<◌}
 use native.Mathlib.Omega.{arith}
 use lib.Dec.{ltb, eqb}
-use lib.ListN.{length, take, drop, get_or, length-append, take-append-drop}
-use lib.Seq.{take_at, take-suc}
+use lib.ListN.{length, take, drop, get_or, take-append-drop}
+use lib.Seq.{take-suc}
+use Rattle.std.specs.Prelude.{Result}
+use Rattle.std.proofs.lemmas.List.{map-append, append_cancel_right}
 use Rattle.flit_number.specs.declared.FlitCount.{FlitCount}
 use Rattle.crc.specs.Unit.{right}
-use Rattle.flit_read.specs.Fields.{fields_of, replay_kind as replay_run, idle_kind as idle_run}
+use Rattle.flit_read.specs.Fields.{fields_of, acceptable, replay_kind as replay_run}
 use Rattle.flit_write.specs.Flits.{bare_control}
 use Rattle.flit_read.specs.declared.Fields.{Fields}
 use Rattle.end_state.specs.State.{verdict_number}
-use Rattle.end_state.specs.Refusals.{store_is, sound, is_down, last_run}
+use Rattle.end_state.specs.Refusals.{is_down, last_run}
 use Rattle.end_state.specs.declared.End.{End as KeptEnd}
 use Rattle.end_state.specs.declared.Mode.{Mode as KeptMode}
 use Rattle.end_state.specs.declared.Mode.TheVariants.{Run, Wait, Down}
-use Rattle.end_state.specs.declared.Verdict.{Verdict}
-use Rattle.end_state.proofs.Tests.{cond_false, cond_either}
+use Rattle.end_state.specs.declared.Refusal.{Refusal}
+use Rattle.std.proofs.lemmas.Bool.{cond_both}
 use Rattle.accept_verdict.specs.Admission as admission
 use Rattle.accept.specs.Accept as accept
-use Rattle.receive_test.specs.Arrivals.{holds, damaged, skips, newly_covered, past_sent, behind, checked}
-use Rattle.receive_answer.specs.Answers.{half, replay_answer, plain_answer, run_answer, wait_answer, mode_answer, tells}
+use Rattle.receive_test.specs.Arrivals.{holds, damaged, skips, checked}
+use Rattle.receive_answer.specs.Answers.{replay_answer, plain_answer, run_answer, wait_answer, mode_answer, tells}
 use Rattle.receive_answer.specs.declared.Answer.{Answer}
 use Rattle.receive_answer.specs.declared.Answer.TheVariants as answer
+use Rattle.receive_answer.proofs.Found.{replay_by, plain_by}
 use Rattle.receive.specs.Receive as receive
 use Rattle.proof_model.proofs.Stream.{Stream, first, Flit, part, control, idle, replay}
 use Rattle.proof_model.proofs.Chain.{final, Grows, grows}
@@ -39,17 +42,9 @@ use Rattle.proof_wire.proofs.Says.{Flight, flit, Reads, units, units_append}
 use Rattle.proof_wire.proofs.Arrive.{IsControl, Hands}
 use Rattle.proof_wire.proofs.Offer.{block_of}
 use Rattle.proof_wire.proofs.Makes.{flights}
-use Rattle.proof_wire.proofs.Along.{handed_is, handeds, sents, sents_append, map_append, units_along, arrived_sents}
+use Rattle.proof_wire.proofs.Along.{handed_is, handeds, sents, sents_append, units_along, arrived_sents}
 use Rattle.proof_wire.proofs.Joint.{Joint, flip, Fine, fine, out_short, out_long, answer_is, next, did}
 use Rattle.proof_wire.proofs.Runs.{runs, begin_joint}
-
--- ---- lists
-
--- what stands before the same end is the same
-cancel : (xs ys zs : List (List ℕ)) → xs ++ zs ≡ ys ++ zs → xs ≡ ys
-cancel xs ys zs h =
-    let l : length ys ≡ length xs = omega (arith, ap length h, length-append xs zs, length-append ys zs) in
-    sym (take_at xs zs (length xs) refl) ∙ ap (take (length xs)) h ∙ take_at ys zs (length xs) l
 
 -- ---- no refusal
 
@@ -68,52 +63,37 @@ other_3 = record { not_1 = λ h. omega arith; not_2 = λ h. omega arith; not_5 =
 over_5 : (n : ℕ) → 5 < n → Other n
 over_5 n h = record { not_1 = λ e. omega arith; not_2 = λ e. omega arith; not_5 = λ e. omega arith }
 
-accept_other : (q : KeptEnd) (store unit : List ℕ) → Fine q store → Other (verdict_number (admission.accept_verdict q store unit))
+-- the number of what accept answers
+abbrev OtherVerdict : Result (Unit {0}) Refusal → Type 0
+OtherVerdict v = Other (verdict_number v)
+
+accept_other : (q : KeptEnd) (store unit : List ℕ) → Fine q store → OtherVerdict (admission.accept_verdict q store unit)
 unfolding admission.accept_verdict
 accept_other q store unit f =
-    subst (λ (v : Verdict). Other (verdict_number v))
-    (sym
-    (cond_false (not (store_is q (length store))) _ _ (ap not f.store_ok)
-    ∙ cond_false (not (sound q store)) _ _ (ap not f.state_ok)))
-    (cond_either (λ (v : Verdict). Other (verdict_number v)) (not (admission.unit_shaped (length unit))) _ _ (λ h. other_3)
-    (λ h3.
-    subst (λ (v : Verdict). Other (verdict_number v)) (sym (cond_false (is_down q.mode) _ _ f.up))
-    (cond_either (λ (v : Verdict). Other (verdict_number v)) (not (eqb (admission.flits_of unit - 1) (last_run q store))) _ _ (λ h. over_5 6 (omega arith))
-    (λ h5.
-    cond_either (λ (v : Verdict). Other (verdict_number v)) (not (Rattle.flit_read.specs.Fields.acceptable (admission.control_of unit))) _ _ (λ h. over_5 7 (omega arith))
-    (λ h6.
-    cond_either (λ (v : Verdict). Other (verdict_number v)) (ltb q.capacity.0 (q.held.0 + admission.flits_of unit)) _ _ (λ h. over_5 8 (omega arith))
-    (λ h7. other_0))))))
+    simp (f.store_ok, f.state_ok, f.up)
+    (cond_both (not (admission.unit_shaped (length unit))) _ _ OtherVerdict (λ h. other_3)
+    (λ h. cond_both (not (eqb (admission.flits_of unit - 1) (last_run q store))) _ _ OtherVerdict (λ k. over_5 6 (omega arith))
+    (λ k. cond_both (not (acceptable (admission.control_of unit))) _ _ OtherVerdict (λ u. over_5 7 (omega arith))
+    (λ u. cond_both (ltb q.capacity.0 (q.held.0 + admission.flits_of unit)) _ _ OtherVerdict (λ v. over_5 8 (omega arith)) (λ v. other_0)))))
 
 -- what is answered in mode run and in mode wait is no refusal
 abbrev Taken : Answer → Type 0
 Taken a = (tells a).refusal ≡ 0
 
 replay_taken : (q : KeptEnd) (x : Fields) → Taken (replay_answer q x)
-unfolding replay_answer
-replay_taken q x =
-    cond_either Taken x.short _ _ (λ h. refl)
-    (λ h. cond_either Taken (ltb 8 x.previous.0) _ _ (λ h. refl)
-    (λ h. cond_either Taken (past_sent q (newly_covered q x.last.0)) _ _ (λ h. refl)
-    (λ h. cond_either Taken (ltb (behind q x.start.0) half) _ _ (λ h. refl) (λ h. refl))))
+replay_taken q x = replay_by Taken q x (λ n. refl) (λ h k. (refl, refl))
 
 plain_taken : (q : KeptEnd) (x : Fields) → Taken (plain_answer q x)
-unfolding plain_answer
-plain_taken q x =
-    cond_either Taken x.short _ _ (λ h. refl)
-    (λ h. cond_either Taken (past_sent q x.acks.0) _ _ (λ h. refl)
-    (λ h. cond_either Taken (eqb x.run.0 idle_run) _ _ (λ h. refl)
-    (λ h. cond_either Taken (not (eqb q.position.0 q.wanted.0)) _ _ (λ h. refl)
-    (λ h. cond_either Taken (ltb 1024 (q.untold.0 + (q.gathered.0 + 1))) _ _ (λ h. refl) (λ h. refl)))))
+plain_taken q x = plain_by Taken q x (λ n. refl) (λ h k. refl) (λ h k. refl) (λ h k u. refl)
 
 mode_taken : (m : KeptMode) (q : KeptEnd) (x : Fields) (c : Bool) → is_down m ≡ false → Taken (mode_answer m q x c)
 unfolding run_answer wait_answer
 mode_taken Run q x c h =
-    cond_either Taken (holds q) _ _ (λ h. refl)
-    (λ h. cond_either Taken (damaged q x c) _ _ (λ h. refl)
-    (λ h. cond_either Taken (skips x) _ _ (λ h. refl)
-    (λ h. cond_either Taken (eqb x.run.0 replay_run) _ _ (λ h. replay_taken q x) (λ h. plain_taken q x))))
-mode_taken Wait q x c h = cond_either Taken (c && eqb x.run.0 replay_run) _ _ (λ h. replay_taken q x) (λ h. refl)
+    cond_both (holds q) _ _ Taken (λ h. refl)
+    (λ h. cond_both (damaged q x c) _ _ Taken (λ h. refl)
+    (λ h. cond_both (skips x) _ _ Taken (λ h. refl)
+    (λ h. cond_both (eqb x.run.0 replay_run) _ _ Taken (λ h. replay_taken q x) (λ h. plain_taken q x))))
+mode_taken Wait q x c h = cond_both (c && eqb x.run.0 replay_run) _ _ Taken (λ h. replay_taken q x) (λ h. refl)
 mode_taken Down q x c h = absurd (true≢false h)
 
 -- ---- a unit that is handed on
@@ -150,14 +130,14 @@ module _ (x y : Bool) (f g : Stream) (s : System) (j : Joint x y f g s) where
       let p = nx.at in
       let z = nx.is_at in
       let last : suc p.part * 64 ≡ length p.unit.arrives =
-      subst (λ (w : Flight). suc w.part * 64 ≡ length w.arrives) z c.last in
+      rw z at c.last in
       record {
         before = p.before;
         unit = p.unit;
         after = p.after';
         among = p.among;
         last = omega (arith, p.place);
-        same = subst (λ (w : Flight). w.arrives ≡ w.sent) z c.same;
+        same = rw z at c.same;
         as_sent =
             ap (λ (w : Answer). take (suc n.0 * 64) (receive.hold_after w q s.a.hold v)) a
             ∙ h.3
@@ -206,7 +186,7 @@ module _ (x y : Bool) (f g : Stream) (s : System) (j : Joint x y f g s) where
       let n = s.ab.taken in
       let far : (final j.c j.l).pos ≡ j.e.s.sent = k.there ∙ k.all in
       let whole : handeds (take n fl) ++ handeds (drop n fl) ≡ units (first f j.c.pos) ++ handeds (drop n fl) =
-      sym (map_append (sents (take n fl)) (sents (drop n fl)))
+      sym (map-append as_handed (sents (take n fl)) (sents (drop n fl)))
       ∙ ap (map as_handed) (sym (sents_append (take n fl) (drop n fl)))
       ∙ ap handeds (take-append-drop n fl)
       ∙ j.log t
@@ -214,7 +194,7 @@ module _ (x y : Bool) (f g : Stream) (s : System) (j : Joint x y f g s) where
       ∙ sym (units_along f j.c j.l (drop n fl) j.inv.to.wire j.there.reads k.straight) in
       handed_on
       ∙ ap (λ (i : ℕ). units (first f i)) (sym k.here)
-      ∙ sym (cancel (handeds (take n fl)) (units (first f j.c.pos)) (handeds (drop n fl)) whole)
+      ∙ sym (append_cancel_right (handeds (take n fl)) (units (first f j.c.pos)) (handeds (drop n fl)) whole)
       ∙ ap (map as_handed) (sym (arrived_sents n s.ab.passages j.there.sized))
 
 demand : (f g : Stream) (s : System) → Joint false false f g s → (Unaltered s.ab.passages → Joint true false f g s) → Demand s
@@ -264,4 +244,4 @@ module _ (store hold store' hold' : List ℕ) (h : Lent store hold) (h' : Lent s
 
 -- the theorem
 pub third_test : ThirdTest
-third_test store hold store' hold' h h' events fair = both_ways store hold store' hold' h h' events fair
+third_test = both_ways

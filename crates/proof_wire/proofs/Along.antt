@@ -2,20 +2,19 @@
 -- is among the first t flits are those that have arrived when t flits have; and where nothing was altered, the units along a wire are the
 -- units of the sender's stream, one after the other.
 use mathlib.Core.Path.{◌≡◌, refl, ap, ap₂, sym, ◌∙◌}
-use mathlib.Core.Bool.{Bool, true, false, ◌&&◌, true≢false, cond}
+use mathlib.Core.Bool.{Bool, true, false, true≢false, cond}
 use mathlib.Core.List.{List, [], ◌∷◌, ◌++◌, map, append_assoc, append-nil}
 use Prim.Native.Nat.{ℕ, zero, suc, ◌+◌, ◌-◌, ◌*◌, ◌≤◌, ◌<◌}
 use native.Mathlib.Omega.{arith}
 use native.Mathlib.Decide.{dec_le, dec_lt}
 use borrow.Author.Tests.{le-leb, lt-leb, eq-eqb, ne_eqb}
-use lib.Dec.{leb, eqb}
+use lib.Dec.{leb}
 use lib.ListN.{length, take, drop, get_or, length-append, get_or-append}
 use lib.Seq.{take_at, drop_at, take-append-add, take-append-le, get_or-append-add}
 use Rattle.flit_write.specs.Flits.{bare_control}
 use Rattle.end_state.specs.Ring.{flit_at}
-use Rattle.end_state.proofs.Tests.{and_false_l, cond_true, cond_false}
 use Rattle.proof_model.proofs.Stream.{Stream, first, Flit, Item, part, control, idle, replay}
-use Rattle.proof_model.proofs.Chain.{Chain, after, final, Wire, Fits}
+use Rattle.proof_model.proofs.Chain.{Chain, step, after, final, Wire, Fits}
 use Rattle.proof_model.proofs.Clean.{Straight, Goes}
 use Rattle.proof_wire.specs.System.{Passage, arriving}
 use Rattle.proof_wire.specs.Theorem.{as_handed, is_unit, arrived_units}
@@ -132,22 +131,20 @@ sents_append (x ∷ xs) ys =
 module _ (p : Passage) (size : length p.arrives ≡ flits p * 64) where
   not_last : (k : ℕ) → suc k < flits p → ends_unit (at p k) ≡ false
   unfolding ends_unit
-  not_last k h =
-      and_false_l (eqb (suc k * 64) (length p.arrives)) (is_unit p.sent) (ne_eqb (suc k * 64) (length p.arrives) (λ z. omega arith))
+  not_last k h = simp (ne_eqb (suc k * 64) (length p.arrives) (λ z. omega arith))
 
   is_last : (k : ℕ) → suc k ≡ flits p → ends_unit (at p k) ≡ is_unit p.sent
   unfolding ends_unit
-  is_last k h = ap (λ (t : Bool). t && is_unit p.sent) (eq-eqb (suc k * 64) (length p.arrives) (omega arith))
+  is_last k h = simp (eq-eqb (suc k * 64) (length p.arrives) (omega arith))
 
   spread_open : (k n t : ℕ) → k + n ≡ flits p → t < n → sents (take t (spread p k n)) ≡ []
   spread_open k zero t e h = absurd (omega arith)
   spread_open k (suc n) zero e h = refl
-  spread_open k (suc n) (suc t) e h =
-      cond_false (ends_unit (at p k)) _ _ (not_last k (omega arith)) ∙ spread_open (suc k) n t (omega arith) (omega arith)
+  spread_open k (suc n) (suc t) e h = simp (not_last k (omega arith)) (spread_open (suc k) n t (omega arith) (omega arith))
 
   spread_all : (k n : ℕ) → k + suc n ≡ flits p → sents (spread p k (suc n)) ≡ cond (is_unit p.sent) (p.sent ∷ []) []
-  spread_all k zero e = ap (λ (b : Bool). cond b (p.sent ∷ []) []) (is_last k (omega arith))
-  spread_all k (suc n) e = cond_false (ends_unit (at p k)) _ _ (not_last k (omega arith)) ∙ spread_all (suc k) n (omega arith)
+  spread_all k zero e = simp (is_last k (omega arith))
+  spread_all k (suc n) e = simp (not_last k (omega arith)) (spread_all (suc k) n (omega arith))
 
   spread_whole : 1 ≤ flits p → sents (spread p 0 (flits p)) ≡ cond (is_unit p.sent) (p.sent ∷ []) []
   spread_whole h =
@@ -172,15 +169,15 @@ arrived_sents t (p ∷ ps) s = go (dec_le (flits p) t) (arrived_sents (t - flits
         ≡ sents (take t (spread p 0 (flits p) ++ flights ps))
     go (yes a) ih =
         let e : length (spread p 0 (flits p)) + (t - flits p) ≡ t = omega (arith, len) in
-        cond_true (leb (flits p) t) _ _ (le-leb (flits p) t a)
-        ∙ sym (cond_front (is_unit p.sent) p.sent (arrived_units (t - flits p) ps))
+        simp (le-leb (flits p) t a)
+        (sym (cond_front (is_unit p.sent) p.sent (arrived_units (t - flits p) ps))
         ∙ ap₂ (λ (u v : List (List ℕ)). u ++ v) (sym (spread_whole p s.0 s.1)) ih
         ∙ sym (sents_append (spread p 0 (flits p)) (take (t - flits p) (flights ps)))
-        ∙ ap sents (sym (take-append-add (spread p 0 (flits p)) (flights ps) (t - flits p)) ∙ ap (λ (n : ℕ). take n (spread p 0 (flits p) ++ flights ps)) e)
+        ∙ ap sents (sym (take-append-add (spread p 0 (flits p)) (flights ps) (t - flits p)) ∙ ap (λ (n : ℕ). take n (spread p 0 (flits p) ++ flights ps)) e))
     go (no a) ih =
-        cond_false (leb (flits p) t) _ _ (lt-leb (flits p) t (omega arith))
-        ∙ sym (spread_open p s.0 0 (flits p) t (omega arith) (omega arith))
-        ∙ ap sents (sym (take-append-le t (spread p 0 (flits p)) (flights ps) (omega (arith, len))))
+        simp (lt-leb (flits p) t (omega arith))
+        (sym (spread_open p s.0 0 (flits p) t (omega arith) (omega arith))
+        ∙ ap sents (sym (take-append-le t (spread p 0 (flits p)) (flights ps) (omega (arith, len)))))
 
 -- ---- where nothing is altered
 
@@ -200,10 +197,6 @@ closing_is got b n k st y h =
 abbrev pub handeds : List Flight → List (List ℕ)
 handeds ys = map as_handed (sents ys)
 
-pub map_append : (us vs : List (List ℕ)) → map as_handed (us ++ vs) ≡ map as_handed us ++ map as_handed vs
-map_append [] vs = refl
-map_append (u ∷ us) vs = ap (λ (l : List (List ℕ)). as_handed u ∷ l) (map_append us vs)
-
 pub units_along : (f : Stream) (c : Chain) (l : List Item) (ys : List Flight) → Wire most f c l → ReadsAll f c l ys → Straight c l
     → units (first f c.pos) ++ handeds ys ≡ units (first f (final c l).pos)
 units_along f c [] [] w r s = append-nil (units (first f c.pos))
@@ -214,17 +207,13 @@ units_along f c (x ∷ l) (y ∷ ys) w r s =
   where
     on : (f : Stream) (c : Chain) (x : Flit) (ok : Bool) (lo hi : ℕ) (y : Flight)
         → Fits most f c (record { flit = x; ok = ok; lo = lo; hi = hi }) → Reads f c.got x ok y → ok ≡ true → Goes c x → (ys : List Flight)
-        → units (first f c.pos) ++ handeds (y ∷ ys) ≡ units (first f (Rattle.proof_model.proofs.Chain.step c x lo hi).pos) ++ handeds ys
-    on f c (part v) ok lo hi y w r o g ys =
-        ap (λ (u : List (List ℕ)). units (first f c.pos) ++ map as_handed u) (cond_false (ends_unit y) _ _ r.ends)
+        → units (first f c.pos) ++ handeds (y ∷ ys) ≡ units (first f (step c x lo hi).pos) ++ handeds ys
+    on f c (part v) ok lo hi y w r o g ys = simp r.ends
     on f c (control b n k st) true lo hi y w r o g ys =
         let u : as_handed y.sent ≡ bytes_of (f c.pos) = closing_is c.got b n k st y r ∙ ap bytes_of (w.fit.same refl) in
-        ap (λ (v : List (List ℕ)). units (first f c.pos) ++ map as_handed v) (cond_true (ends_unit y) _ _ r.ends)
-        ∙ ap (λ (v : List ℕ). units (first f c.pos) ++ (v ∷ handeds ys)) u
-        ∙ sym (append_assoc (units (first f c.pos)) (bytes_of (f c.pos) ∷ []) (handeds ys))
-        ∙ ap (λ (v : List (List ℕ)). v ++ handeds ys) (sym (units_append (first f c.pos) (f c.pos ∷ [])))
+        simp (r.ends, u)
+        (sym (append_assoc (units (first f c.pos)) (bytes_of (f c.pos) ∷ []) (handeds ys))
+        ∙ ap (λ (v : List (List ℕ)). v ++ handeds ys) (sym (units_append (first f c.pos) (f c.pos ∷ []))))
     on f c (control b n k st) false lo hi y w r o g ys = absurd (true≢false (sym o))
-    on f c (idle k st n) ok lo hi y w r o g ys =
-        ap (λ (u : List (List ℕ)). units (first f c.pos) ++ map as_handed u) (cond_false (ends_unit y) _ _ r.ends)
-    on f c (replay na p n st t) ok lo hi y w r o g ys =
-        ap₂ (λ (i : ℕ) (u : List (List ℕ)). units (first f i) ++ map as_handed u) (sym g) (cond_false (ends_unit y) _ _ r.ends)
+    on f c (idle k st n) ok lo hi y w r o g ys = simp r.ends
+    on f c (replay na p n st t) ok lo hi y w r o g ys = simp (r.ends, g)

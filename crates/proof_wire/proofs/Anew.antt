@@ -9,7 +9,7 @@ use native.Mathlib.Nat.{mod-lt}
 use native.Mathlib.Omega.{arith}
 use native.Mathlib.Decide.{dec_le, ℕ_discrete}
 use borrow.Author.Tests.{lt-ltb, le-ltb, eq-eqb, ne_eqb}
-use lib.Dec.{ltb, eqb}
+use lib.Dec.{ltb}
 use lib.Pow.{pow_pos}
 use Rattle.flit_number.specs.Numbers.{width, difference, wanted_by}
 use Rattle.flit_number.proofs.Laws.{wanted_told}
@@ -18,7 +18,6 @@ use Rattle.flit_read.specs.declared.Fields.{Fields}
 use Rattle.end_state.specs.declared.End.{End as KeptEnd}
 use Rattle.end_state.specs.declared.Mode.{Mode as KeptMode}
 use Rattle.end_state.specs.declared.Mode.TheVariants.{Run, Wait}
-use Rattle.end_state.proofs.Tests.{cond_true, cond_false}
 use Rattle.receive_test.specs.Arrivals.{behind, newly_covered, past_sent}
 use Rattle.receive_answer.specs.Answers.{half, replay_answer}
 use Rattle.receive_answer.specs.declared.Answer.{Answer}
@@ -85,7 +84,7 @@ module _ (f g : Stream) (store : List ℕ) (e : End) (d : Chain) (q : KeptEnd) (
 
       c : Credited f store e.s t q told
       c =
-          subst (λ (z : ℕ). Credited f store e.s t q (acknowledged q store z)) (sym new)
+          rw new
           (subst (λ (z : ℕ). Credited f store e.s z q (acknowledged q store (t - e.s.acked))) sum
           (credits f store e.s q w.own st fo (t - e.s.acked) le))
 
@@ -94,7 +93,7 @@ module _ (f g : Stream) (store : List ℕ) (e : End) (d : Chain) (q : KeptEnd) (
 
       asked_stands : Stands f store (Step.nacked na c.t) asked
       asked_stands =
-          subst (λ (z : Bool). Stands f store (Step.nacked na c.t) (sent_anew z (informed x.information told))) (sym s.nack)
+          rw s.nack
           (nacked_stands f store c.t (informed x.information told) na
           (restand f store c.t told _ refl c.stands))
 
@@ -124,10 +123,7 @@ module _ (f g : Stream) (store : List ℕ) (e : End) (d : Chain) (q : KeptEnd) (
 
       answers : replay_answer q x ≡ cond (ltb (behind q x.start.0) half) answer.Replayed answer.Ahead
       unfolding replay_answer
-      answers =
-          cond_false x.short _ _ s.short
-          ∙ cond_false (ltb 8 x.previous.0) _ _ (le-ltb 8 x.previous.0 (omega (arith, s.owes, s.le)))
-          ∙ cond_false (past_sent q (newly_covered q x.last.0)) _ _ (ap (past_sent q) new ∙ in_order (t - e.s.acked) w.own le)
+      answers = simp (s.short, le-ltb 8 x.previous.0 (omega (arith, s.owes, s.le)), new, in_order (t - e.s.acked) w.own le)
 
       placed_kept : (mo : Mode) (pl : KeptEnd) → pl.mode ≡ mode_of mo → pl.wanted.0 ≡ asked.wanted.0 → pl.position.0 ≡ x.start.0
           → pl.owed.0 ≡ x.previous.0 → pl.stalled ≡ x.stalled → pl.gathered.0 ≡ 0 → pl.untold.0 ≡ asked.untold.0 → pl.discards < patience
@@ -154,8 +150,7 @@ module _ (f g : Stream) (store : List ℕ) (e : End) (d : Chain) (q : KeptEnd) (
           let bk : behind q x.start.0 ≡ num g e.r.wanted - num g p =
           ap₂ (difference width) k.wanted s.start
           ∙ difference_up width (num g e.r.wanted) (num g p) z (omega (arith, hi_le, lo_le, w.fits.span)) in
-          subst Goal
-          (sym (answers ∙ cond_true (ltb (behind q x.start.0) half) _ _ (lt-ltb (behind q x.start.0) half (omega (arith, hi_le, lo_le, w.fits.span)))))
+          simp (answers, lt-ltb (behind q x.start.0) half (omega (arith, hi_le, lo_le, w.fits.span)))
           (record {
             moves =
                 record {
@@ -192,8 +187,7 @@ module _ (f g : Stream) (store : List ℕ) (e : End) (d : Chain) (q : KeptEnd) (
           go : Dec (asked.discards + 1 ≡ patience)
               → Came f g store e (item (replay na p n bt t) true lo hi) (discarded (replay_taken q store x)) hold (handed ++ [])
           go (yes u) =
-              subst (λ (v : KeptEnd). Came f g store e (item (replay na p n bt t) true lo hi) v hold (handed ++ []))
-              (sym (cond_true (eqb (asked.discards + 1) patience) _ _ (eq-eqb (asked.discards + 1) patience u)))
+              simp (eq-eqb (asked.discards + 1) patience u)
               (record {
                 e' = record { s = again (Step.nacked na c.t); r = Step.placed wait p n bt e.r };
                 does = ahead_wait m h c.acks enough;
@@ -202,8 +196,7 @@ module _ (f g : Stream) (store : List ℕ) (e : End) (d : Chain) (q : KeptEnd) (
                 kept = placed_kept wait _ still refl refl refl refl refl refl (omega arith);
               })
           go (no u) =
-              subst (λ (v : KeptEnd). Came f g store e (item (replay na p n bt t) true lo hi) v hold (handed ++ []))
-              (sym (cond_false (eqb (asked.discards + 1) patience) _ _ (ne_eqb (asked.discards + 1) patience u)))
+              simp (ne_eqb (asked.discards + 1) patience u)
               (record {
                 e' = record { s = Step.nacked na c.t; r = Step.placed wait p n bt e.r };
                 does = ahead_wait m h c.acks more;
@@ -219,8 +212,7 @@ module _ (f g : Stream) (store : List ℕ) (e : End) (d : Chain) (q : KeptEnd) (
           let bk : behind q x.start.0 ≡ 2 ^ width - (num g p - num g e.r.wanted) =
           ap₂ (difference width) k.wanted s.start
           ∙ difference_down width (num g e.r.wanted) (num g p) z (omega (arith, start_le, w.near, w.fits.span)) in
-          subst Goal
-          (sym (answers ∙ cond_false (ltb (behind q x.start.0) half) _ _ (le-ltb (behind q x.start.0) half (omega (arith, start_le, w.near, w.fits.span)))))
+          simp (answers, le-ltb (behind q x.start.0) half (omega (arith, start_le, w.near, w.fits.span)))
           (record {
             moves =
                 subst (λ (v : KeptMode). Came f g store e (item (replay na p n bt t) true lo hi) (ahead_in v (replay_taken q store x)) hold (handed ++ []))

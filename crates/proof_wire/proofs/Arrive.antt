@@ -19,16 +19,17 @@ use Rattle.flit_read.specs.declared.Fields.{Fields}
 use Rattle.flit_read.proofs.Laws.{length_bytes}
 use Rattle.end_state.specs.Ring.{put_at}
 use Rattle.end_state.specs.declared.End.{End as KeptEnd}
-use Rattle.end_state.proofs.Tests.{cond_true, cond_false}
-use Rattle.receive_test.specs.Arrivals.{holds, damaged, straddles, skips, behind, past_sent}
+use Rattle.end_state.proofs.Places.{put_length}
+use Rattle.receive_test.specs.Arrivals.{holds, damaged, straddles, behind, past_sent}
 use Rattle.receive_answer.specs.Answers.{plain_answer, run_answer}
+use Rattle.receive_answer.specs.declared.Cause.TheVariants as cause
 use Rattle.receive_answer.specs.declared.Answer.{Answer}
 use Rattle.receive_answer.specs.declared.Answer.TheVariants as answer
 use Rattle.receive_free.specs.Acknowledge.{sent_anew, acknowledged}
 use Rattle.receive_take.specs.Taken.{closed, delivered}
 use Rattle.receive_state.specs.Effects.{waiting, discarded, end_after}
 use Rattle.receive.specs.Receive.{hold_after}
-use Rattle.proof_model.proofs.Stream.{Stream, owed, num, some, Flit, Item, part, control, idle, replay}
+use Rattle.proof_model.proofs.Stream.{Stream, owed, num, some, Flit, Item, part, control, idle}
 use Rattle.proof_model.proofs.End.{run, wait, Receiver, End}
 use Rattle.proof_model.proofs.Step
 use Rattle.proof_model.proofs.Step.{item, again, more, enough, Receive, holds as holds_step, delivers, repeats, idling, damaged as damaged_step, discards}
@@ -37,7 +38,7 @@ use Rattle.proof_model.proofs.Chain.{Chain, Rest}
 use Rattle.proof_model.proofs.Inv.{Local, Runs, At, Head}
 use Rattle.proof_model.proofs.Receive.{Given}
 use Rattle.proof_wire.specs.System.{arrived_by, handed_by}
-use Rattle.proof_wire.proofs.Pieces.{joined, joined_snoc, put_front, put_size}
+use Rattle.proof_wire.proofs.Pieces.{joined, joined_snoc, put_front}
 use Rattle.proof_wire.proofs.Wrap.{wrap, most, after_wrap, difference_up}
 use Rattle.proof_wire.proofs.Stands.{restand, Stands, Formed}
 use Rattle.proof_wire.proofs.Credit.{Same, Credited, credits, pending_stands}
@@ -54,25 +55,16 @@ pub record Came (f g : Stream) (store : List ℕ) (e : End) (i : Item) (p : Kept
 
 -- a delivery is of a right unit
 abbrev pub IsControl : Flit → Type 0
-IsControl (part v) = ⊥
 IsControl (control b n k st) = Unit {0}
-IsControl (idle k st n) = ⊥
-IsControl (replay na p n st t) = ⊥
+IsControl _ = ⊥
 
 -- and of the data flits held, with the flit x as its control flit
 abbrev pub Hands : Answer → Item → Receiver → List ℕ → List ℕ → Type 0
 Hands (answer.Delivered n) i r hold x =
     (i.ok ≡ true) × IsControl i.flit × (r.mode ≡ run) × (take (suc n.0 * 64) hold ≡ joined r.hold ++ bare_control x)
 Hands (answer.Refused why) i r hold x = ⊥
-Hands (answer.Down cause) i r hold x = ⊥
-Hands answer.Held i r hold x = Unit {0}
-Hands answer.Damaged i r hold x = Unit {0}
-Hands answer.Skipped i r hold x = Unit {0}
-Hands answer.Duplicate i r hold x = Unit {0}
-Hands answer.Idle i r hold x = Unit {0}
-Hands answer.Replayed i r hold x = Unit {0}
-Hands answer.Ahead i r hold x = Unit {0}
-Hands answer.Discarded i r hold x = Unit {0}
+Hands (answer.Down why) i r hold x = ⊥
+Hands _ i r hold x = Unit {0}
 
 pub record Followed (f g : Stream) (store hold : List ℕ) (handed : List (List ℕ)) (e : End) (i : Item) (q : KeptEnd) (x : List ℕ) (A : Answer) : Type 0 where
   pub moves : Came f g store e i (end_after A q store (fields_of x)) (hold_after A q hold x) (handed ++ handed_by A (hold_after A q hold x))
@@ -131,8 +123,7 @@ module _ (f g : Stream) (store : List ℕ) (e : End) (d : Chain) (q : KeptEnd) (
         let z : suc (length e.r.hold) ≡ length (e.r.hold ++ (v ∷ [])) = sym (length-append e.r.hold (v ∷ []) ∙ omega arith) in
         let big : q.gathered.0 * 64 + 64 ≤ length hold = omega (arith, k.gathered, k.size) in
         let fr = put_front hold q.gathered.0 (flit y) big h.size in
-        subst (Followed f g store hold handed e (item (part v) ok lo hi) q (flit y))
-        (sym (cond_true (holds q) _ _ (Looks.holds_yes q (k.stalled ∙ b) (omega (arith, k.gathered, k.owes)))))
+        simp (Looks.holds_yes q (k.stalled ∙ b) (omega (arith, k.gathered, k.owes)))
         (record {
           moves =
               record {
@@ -155,7 +146,7 @@ module _ (f g : Stream) (store : List ℕ) (e : End) (d : Chain) (q : KeptEnd) (
                           ∙ fr
                           ∙ ap₂ (λ (l x : List ℕ). l ++ x) (ap (λ (n : ℕ). take (n * 64) hold) k.gathered ∙ k.held) (sym h.same)
                           ∙ sym (joined_snoc e.r.hold v);
-                      size = put_size hold q.gathered.0 (flit y) big h.size ∙ k.size;
+                      size = put_length hold (flit y) q.gathered.0 big h.size ∙ k.size;
                       out = out_same;
                     };
               };
@@ -168,7 +159,7 @@ module _ (f g : Stream) (store : List ℕ) (e : End) (d : Chain) (q : KeptEnd) (
         → Followed f g store hold handed e (item x false lo hi) q y (run_answer q (fields_of y) false)
     unfolding run_answer damaged end_after hold_after waiting
     on_spoiled x y lo hi m t =
-        subst (Followed f g store hold handed e (item x false lo hi) q y) (sym (cond_false (holds q) _ _ t))
+        simp t
         (record {
           moves =
               record {
@@ -202,8 +193,7 @@ module _ (f g : Stream) (store : List ℕ) (e : End) (d : Chain) (q : KeptEnd) (
       where
         go : Dec (q.discards + 1 ≡ patience) → Came f g store e i (discarded q) hold (handed ++ [])
         go (yes h) =
-            subst (λ (p : KeptEnd). Came f g store e i p hold (handed ++ []))
-            (sym (cond_true (eqb (q.discards + 1) patience) _ _ (eq-eqb (q.discards + 1) patience h)))
+            simp (eq-eqb (q.discards + 1) patience h)
             (record {
               e' = record { s = again e.s; r = e.r };
               does = discards m enough;
@@ -225,8 +215,7 @@ module _ (f g : Stream) (store : List ℕ) (e : End) (d : Chain) (q : KeptEnd) (
                   };
             })
         go (no h) =
-            subst (λ (p : KeptEnd). Came f g store e i p hold (handed ++ []))
-            (sym (cond_false (eqb (q.discards + 1) patience) _ _ (ne_eqb (q.discards + 1) patience h)))
+            simp (ne_eqb (q.discards + 1) patience h)
             (record {
               e' = record { s = e.s; r = e.r };
               does = discards m more;
@@ -260,18 +249,17 @@ module _ (f g : Stream) (store : List ℕ) (e : End) (d : Chain) (q : KeptEnd) (
         let o : n ≡ e.r.owes = cc (i.run, r.owes) in
         let le : e.s.acked + a ≤ num f e.s.sent = omega (arith, r.told, w.limit) in
         let c : Credited f store e.s (e.s.acked + a) q (acknowledged q store x.acks.0) =
-        subst (λ (t : ℕ). Credited f store e.s (e.s.acked + a) q (acknowledged q store t)) (sym s.acks) (credits f store e.s q w.own st fo a le) in
+        rw s.acks (credits f store e.s q w.own st fo a le) in
         let cl = Looks.closes_rest q (rest_bit z.1) in
         let sm = c.same in
-        subst (Followed f g store hold handed e (item (idle a b n) true lo hi) q (flit y))
-        (sym
-        (cond_false (holds q) _ _ (Looks.holds_rest q (none_gathered z.0) (rest_bit z.1))
-        ∙ cond_false (damaged q x true) _ _ (Looks.damaged_idle q x s.run (s.owes ∙ o ∙ sym k.owes) cl)
-        ∙ cond_false (skips x) _ _ (Looks.skips_known q x 15 s.run refl)
-        ∙ cond_false (eqb x.run.0 replay_run) _ _ (ap (λ (t : ℕ). eqb t replay_run) s.run)
-        ∙ cond_false x.short _ _ s.short
-        ∙ cond_false (past_sent q x.acks.0) _ _ (ap (past_sent q) s.acks ∙ in_order a w.own le)
-        ∙ cond_true (eqb x.run.0 idle_run) _ _ (ap (λ (t : ℕ). eqb t idle_run) s.run)))
+        simp (
+          Looks.holds_rest q (none_gathered z.0) (rest_bit z.1),
+          Looks.damaged_idle q x s.run (s.owes ∙ o ∙ sym k.owes) cl,
+          Looks.skips_known q x 15 s.run refl,
+          s.run,
+          s.short,
+          ap (past_sent q) s.acks ∙ in_order a w.own le,
+        )
         (record {
           moves =
               record {
@@ -341,7 +329,7 @@ module _ (f g : Stream) (store : List ℕ) (e : End) (d : Chain) (q : KeptEnd) (
             ∙ difference_up width (num g e.r.wanted) (num g e.r.position) up (omega (arith, close))
 
         c : Credited f store e.s (e.s.acked + a) q (acknowledged q store x.acks.0)
-        c = subst (λ (t : ℕ). Credited f store e.s (e.s.acked + a) q (acknowledged q store t)) (sym s.acks) (credits f store e.s q w.own st fo a le)
+        c = rw s.acks (credits f store e.s q w.own st fo a le)
 
         run_le : x.run.0 ≤ 8
         run_le = omega (arith, s.run, s.le)
@@ -359,16 +347,19 @@ module _ (f g : Stream) (store : List ℕ) (e : End) (d : Chain) (q : KeptEnd) (
         Goal A = Followed f g store hold handed e (item (control b n a bt) true lo hi) q (flit y) A
 
         admits : straddles q x ≡ false → run_answer q x true ≡ cond (not (eqb q.position.0 q.wanted.0)) answer.Duplicate
-            (cond (ltb 1024 (q.untold.0 + (q.gathered.0 + 1))) (answer.Down 4) (answer.Delivered q.gathered))
+            (cond (ltb 1024 (q.untold.0 + (q.gathered.0 + 1))) (answer.Down cause.Untold) (answer.Delivered q.gathered))
         unfolding run_answer plain_answer
         admits sd =
-            cond_false (holds q) _ _ (Looks.holds_full q full)
-            ∙ cond_false (damaged q x true) _ _ (Looks.damaged_control q x (k.stalled ∙ bit) run_le sd)
-            ∙ cond_false (skips x) _ _ (Looks.skips_control q x run_le)
-            ∙ cond_false (eqb x.run.0 replay_run) _ _ (ne_eqb x.run.0 replay_run (λ z. omega (arith, run_le)))
-            ∙ cond_false x.short _ _ s.short
-            ∙ cond_false (past_sent q x.acks.0) _ _ (ap (past_sent q) s.acks ∙ in_order a w.own le)
-            ∙ cond_false (eqb x.run.0 idle_run) _ _ (ne_eqb x.run.0 idle_run (λ z. omega (arith, run_le)))
+            simp (
+              Looks.holds_full q full,
+              Looks.damaged_control q x (k.stalled ∙ bit) run_le sd,
+              Looks.skips_control q x run_le,
+              ne_eqb x.run.0 replay_run (λ z. omega (arith, run_le)),
+              s.short,
+              s.acks,
+              in_order a w.own le,
+              ne_eqb x.run.0 idle_run (λ z. omega (arith, run_le)),
+            )
 
         delivers_it : e.r.position ≡ e.r.wanted → Goal (run_answer q x true)
         unfolding end_after hold_after delivered closed
@@ -384,11 +375,11 @@ module _ (f g : Stream) (store : List ℕ) (e : End) (d : Chain) (q : KeptEnd) (
             let put = put_front hold q.gathered.0 (bare_control (flit y)) big bs in
             let unit : take (suc q.gathered.0 * 64) (put_at hold q.gathered.0 (bare_control (flit y))) ≡ joined e.r.hold ++ b =
             put ∙ ap₂ (λ (l v : List ℕ). l ++ v) (ap (λ (t : ℕ). take (t * 64) hold) k.gathered ∙ k.held) s.bare in
-            subst Goal
-            (sym
-            (admits (Looks.straddles_none q x (omega (arith, back_by)))
-            ∙ cond_false (not (eqb q.position.0 q.wanted.0)) _ _ (ap not (eq-eqb q.position.0 q.wanted.0 at))
-            ∙ cond_false (ltb 1024 (q.untold.0 + (q.gathered.0 + 1))) _ _ (le-ltb 1024 (q.untold.0 + (q.gathered.0 + 1)) ov)))
+            simp (
+              admits (Looks.straddles_none q x (omega (arith, back_by))),
+              eq-eqb q.position.0 q.wanted.0 at,
+              le-ltb 1024 (q.untold.0 + (q.gathered.0 + 1)) ov,
+            )
             (record {
               moves =
                   record {
@@ -407,7 +398,7 @@ module _ (f g : Stream) (store : List ℕ) (e : End) (d : Chain) (q : KeptEnd) (
                           untold = omega (arith, k.untold, k.gathered);
                           discards = rw sm.discards k.discards;
                           held = refl;
-                          size = put_size hold q.gathered.0 (bare_control (flit y)) big bs ∙ k.size;
+                          size = put_length hold (bare_control (flit y)) q.gathered.0 big bs ∙ k.size;
                           out =
                               ap₂ (λ (l : List (List ℕ)) (v : List ℕ). l ++ (v ∷ [])) k.out unit
                               ∙ sym (units_append e.r.out (record { parts = e.r.hold; body = b; run = n } ∷ []));
@@ -423,11 +414,10 @@ module _ (f g : Stream) (store : List ℕ) (e : End) (d : Chain) (q : KeptEnd) (
             let lt : num g (suc e.r.position) ≤ num g e.r.wanted = num_le g (suc e.r.position) e.r.wanted (omega (arith, r.behind)) in
             let far : wrap (num g e.r.position) ≢ wrap (num g e.r.wanted) = omega (arith, close) in
             let sm = c.same in
-            subst Goal
-            (sym
-            (admits (Looks.straddles_before q x (omega (arith, back_by, k.gathered, owed_here)))
-            ∙ cond_true (not (eqb q.position.0 q.wanted.0)) _ _
-            (ap not (ne_eqb q.position.0 q.wanted.0 (λ z. far (sym k.position ∙ z ∙ k.wanted))))))
+            simp (
+              admits (Looks.straddles_before q x (omega (arith, back_by, k.gathered, owed_here))),
+              ne_eqb q.position.0 q.wanted.0 (λ z. far (sym k.position ∙ z ∙ k.wanted)),
+            )
             (record {
               moves =
                   record {

@@ -1,6 +1,6 @@
 -- An acknowledgement on the kept state does what it does on the abstract link: the units all of whose flits are acknowledged leave the
 -- store, and where they pass the cursor it moves to the oldest unit left and replay becomes pending.
-use mathlib.Core.Path.{◌≡◌, refl, ap, sym, subst, ◌∙◌}
+use mathlib.Core.Path.{◌≡◌, refl, ap, ◌∙◌}
 use mathlib.Core.Bool.{Bool, true, false}
 use mathlib.Core.List.{List}
 use Prim.Native.Nat.{ℕ, suc, ◌+◌, ◌-◌, ◌≤◌, ◌<◌}
@@ -10,18 +10,18 @@ use borrow.Author.Tests.{lt-ltb, le-ltb}
 use lib.Dec.{ltb}
 use Rattle.flit_number.specs.Numbers.{width, after}
 use Rattle.end_state.specs.Update.{with_acknowledged, with_pending}
-use Rattle.end_state.specs.Ring.{flit_at, ring_place}
+use Rattle.end_state.specs.Ring.{flit_at, ring_place, walk_begun}
 use Rattle.end_state.specs.Refusals.{cursor_at, acknowledged_at}
 use Rattle.end_state.specs.declared.End.{End}
-use Rattle.end_state.proofs.Tests.{cond_true, cond_false}
-use Rattle.receive_free.specs.Acknowledge.{freed_by, freed, sent_anew, acknowledged}
+use Rattle.end_state.proofs.Places.{place_under}
+use Rattle.receive_free.specs.Acknowledge.{last_border, freed_by, freed, sent_anew, acknowledged}
+use Rattle.receive.proofs.Shifted.{place_place}
 use Rattle.proof_model.proofs.Stream.{Stream, owed, num}
 use Rattle.proof_model.proofs.End.{Sender}
 use Rattle.proof_model.proofs.Step
 use Rattle.proof_model.proofs.Step.{Acked, keeps, passes, again}
 use Rattle.proof_model.proofs.Num.{num_le, num_lt, num_of_le}
 use Rattle.proof_model.proofs.Inv.{Local}
-use Rattle.proof_wire.proofs.Places.{place_lt, place_place}
 use Rattle.proof_wire.proofs.Wrap.{wrap, most, after_wrap}
 use Rattle.proof_wire.proofs.Stands.{restand, goes_on, Stands, Formed, flit_of, off, at_cursor, at_acknowledged, walk_at, borders_in, Within, unit_of}
 
@@ -81,7 +81,7 @@ module _ (f : Stream) (store : List ℕ) (s : Sender) (q : End) (l : Local most 
     frees =
         let j = s.acked + n - num f o in
         let e : acknowledged_at q + n ≡ off f store s q l h fo o + j = omega (arith, at_acknowledged f store s q l h fo, w.begins, low, l.freed) in
-        ap (Rattle.receive_free.specs.Acknowledge.last_border q.capacity.0 q.first (Rattle.end_state.specs.Ring.walk_begun q.kept.0) store) e
+        ap (last_border q.capacity.0 q.first (walk_begun q.kept.0) store) e
         ∙ borders_in f store s q l h fo o j w.least o_le (omega (arith, w.ends))
 
     abbrev left_over : End
@@ -104,7 +104,7 @@ module _ (f : Stream) (store : List ℕ) (s : Sender) (q : End) (l : Local most 
           held = omega (arith, h.held, low, high);
           kept = (walk_at f store s q l h fo o w.least o_le).run;
           pending = h.pending;
-          first = place_lt q.capacity.0 q.first (off f store s q l h fo o) h.first (omega (arith, h.held, h.room, high));
+          first = place_under q.capacity.0 q.first (off f store s q l h fo o) h.first (omega (arith, h.held, h.room, high));
           ring = ring;
         }
       where
@@ -138,8 +138,8 @@ module _ (f : Stream) (store : List ℕ) (s : Sender) (q : End) (l : Local most 
     keeps_it c =
         let z : num f o ≤ num f s.cursor = num_le f o s.cursor c in
         let t : ltb (cursor_at q) (freed_by q store n) ≡ false = le-ltb (cursor_at q) (freed_by q store n) (omega (arith, cursor_off, frees)) in
-        subst Goal (sym (cond_false (ltb (cursor_at q) (freed_by q store n)) _ _ t))
-        (subst (λ (m : ℕ). Goal (freed (with_acknowledged (after width q.acknowledged.0 n) q) store m)) (sym frees)
+        simp t
+        (rw frees
         (record {
           t = Step.freed (s.acked + n) o s;
           acks = keeps o (omega arith) past w.least w.begins w.ends c;
@@ -153,8 +153,8 @@ module _ (f : Stream) (store : List ℕ) (s : Sender) (q : End) (l : Local most 
         let z : num f s.cursor < num f o = num_lt f s.cursor o c in
         let y : num f s.oldest ≤ num f s.cursor = num_le f s.oldest s.cursor l.begun in
         let t : ltb (cursor_at q) (freed_by q store n) ≡ true = lt-ltb (cursor_at q) (freed_by q store n) (omega (arith, cursor_off, frees)) in
-        subst Goal (sym (cond_true (ltb (cursor_at q) (freed_by q store n)) _ _ t))
-        (subst (λ (m : ℕ). Goal (sent_anew true (freed (with_acknowledged (after width q.acknowledged.0 n) q) store m))) (sym frees)
+        simp t
+        (rw frees
         (record {
           t = Step.passed (s.acked + n) o s;
           acks = passes o (omega arith) past w.least w.begins w.ends c;

@@ -1,16 +1,19 @@
 -- Send on bytes does what the abstract send does, whatever becomes of its units on the way.
 use mathlib.Core.Path.{◌≡◌, refl, ap, ap₂, sym, subst, ◌∙◌}
-use mathlib.Core.Bool.{Bool, true, false, true≢false, cond}
+use mathlib.Core.Bool.{Bool, true, false, cond}
 use mathlib.Core.Logic.{◌≢◌}
 use mathlib.Core.List.{List, [], ◌∷◌, ◌++◌, append-nil}
 use Prim.Native.Nat.{ℕ, zero, suc, ◌+◌, ◌-◌, ◌*◌, ◌/◌, ◌^◌, ◌≤◌, ◌<◌, max}
+use native.Mathlib.Nat.{mod-lt}
 use native.Mathlib.Omega.{arith}
 use native.Mathlib.Decide.{dec_lt}
 use borrow.Author.Tests.{lt-ltb, le-ltb, leb-true, leb-false}
 use lib.Dec.{ltb, leb}
-use lib.ListN.{length, take, drop, get_or, length-append, get_or-append, drop_of_length-le}
+use lib.Pow.{pow_pos}
+use lib.ListN.{length, take, get_or, length-append, get_or-append, drop_of_length-le}
 use lib.Seq.{take-length, take-suc, take_at, drop_at, take_all}
-use Rattle.flit_number.specs.Numbers.{width, after}
+use Rattle.flit_number.specs.Numbers.{width, after, acknowledge_for}
+use Rattle.flit_number.proofs.Laws.{difference_lt}
 use Rattle.crc.specs.Unit.{right}
 use Rattle.crc.specs.Seal.{sealed}
 use Rattle.flit_read.specs.Bytes.{read}
@@ -22,7 +25,7 @@ use Rattle.end_state.specs.State.{is_wait}
 use Rattle.end_state.specs.Refusals.{cursor_at, sent_at, previous_run}
 use Rattle.end_state.specs.Update.{with_untold, with_pending}
 use Rattle.end_state.specs.declared.End.{End as KeptEnd}
-use Rattle.end_state.proofs.Tests.{cond_true, cond_false, cond_either}
+use Rattle.std.proofs.lemmas.Bool.{cond_both}
 use Rattle.send_state.specs.Moves as sending
 use Rattle.send_unit.specs.Units.{stored_flits, control_at_cursor, unit_sent}
 use Rattle.send_state.specs.Moves.{fallen, unit_at_cursor, past_unit}
@@ -40,7 +43,7 @@ use Rattle.proof_wire.specs.System.{Passage, passing, ArriveAll}
 use Rattle.proof_wire.proofs.Pieces.{joined, joined_snoc}
 use Rattle.proof_wire.proofs.Wrap.{meaning, wrap, most, after_wrap}
 use Rattle.proof_wire.proofs.Stands.{restand, goes_on, Stands, Taken, Formed, owed_le, at_cursor, at_sent, walk_at, body_at}
-use Rattle.proof_wire.proofs.Says.{Flight, ReadsAll, mode_of, Kept}
+use Rattle.proof_wire.proofs.Says.{SaysControl, ReadsAll, mode_of, Kept}
 use Rattle.proof_wire.proofs.Makes.{spread, flights, flits, Sized, pieces, length_pieces, damage_size, right_same, unit_reads, made_size, made_bytes, made_right, made_says, made_parts, made_alone, made_no_replay, made_unit, alone_reads, idle_comes, replay_of, replay_comes}
 
 -- ---- a burst, by units
@@ -50,31 +53,22 @@ one_of : (xs : List ℕ) → 0 < length xs → one xs ≡ xs ∷ []
 one_of [] h = absurd (omega arith)
 one_of (x ∷ xs) h = refl
 
-one_none : (xs : List ℕ) → length xs ≡ 0 → one xs ≡ []
-one_none [] h = refl
-one_none (x ∷ xs) h = absurd (omega arith)
-
 -- a flit that is a unit of its own, and what comes after it
 pub units_two : (x y : List ℕ) → length x ≡ 64 → 8 < (fields_of x).run.0 → 0 < length y → units_of (x ++ y) ≡ x ∷ y ∷ []
 unfolding units_of
 units_two x y l r h =
-    let t = take_at x y 64 l in
-    cond_true (ltb 8 (fields_of (take 64 (x ++ y))).run.0) _ _ (ap (λ (z : List ℕ). ltb 8 (fields_of z).run.0) t ∙ lt-ltb 8 (fields_of x).run.0 r)
-    ∙ ap₂ (λ (p q : List (List ℕ)). p ++ q) (ap one t ∙ one_of x (omega arith)) (ap one (drop_at x y 64 l) ∙ one_of y h)
+    simp (take_at x y 64 l, drop_at x y 64 l, lt-ltb 8 (fields_of x).run.0 r, one_of x (omega arith), one_of y h)
 
 pub units_dl : (x : List ℕ) → length x ≡ 64 → 8 < (fields_of x).run.0 → units_of x ≡ x ∷ []
 unfolding units_of
 units_dl x l r =
-    let t = take_all 64 x (omega arith) in
-    cond_true (ltb 8 (fields_of (take 64 x)).run.0) _ _ (ap (λ (z : List ℕ). ltb 8 (fields_of z).run.0) t ∙ lt-ltb 8 (fields_of x).run.0 r)
-    ∙ ap₂ (λ (p q : List (List ℕ)). p ++ q) (ap one t ∙ one_of x (omega arith)) (one_none (drop 64 x) (let z : length x ≤ 64 = omega arith in ap length (drop_of_length-le x {i = 64} z)))
+    let z : length x ≤ 64 = omega arith in
+    simp (take_all 64 x z, drop_of_length-le x {i = 64} z, lt-ltb 8 (fields_of x).run.0 r, one_of x (omega arith))
 
 pub units_tl : (x : List ℕ) → length x ≡ 64 → (fields_of x).run.0 ≤ 8 → units_of x ≡ x ∷ []
 unfolding units_of
 units_tl x l r =
-    let t = take_all 64 x (omega arith) in
-    cond_false (ltb 8 (fields_of (take 64 x)).run.0) _ _ (ap (λ (z : List ℕ). ltb 8 (fields_of z).run.0) t ∙ le-ltb 8 (fields_of x).run.0 r)
-    ∙ one_of x (omega arith)
+    simp (take_all 64 x (omega arith), le-ltb 8 (fields_of x).run.0 r, one_of x (omega arith))
 
 -- ---- small facts
 
@@ -88,10 +82,10 @@ wait_test wait = refl
 wait_test down = refl
 
 pub carried_le : (u : ℕ) → sending.carried u ≤ u
-carried_le u = cond_either (λ (n : ℕ). n ≤ u) (leb u 31) u 31 (λ h. omega arith) (λ h. let z = leb-false u 31 h in omega arith)
+carried_le u = cond_both (leb u 31) u 31 (λ (n : ℕ). n ≤ u) (λ h. omega arith) (λ h. let z = leb-false u 31 h in omega arith)
 
 pub carried_31 : (u : ℕ) → sending.carried u ≤ 31
-carried_31 u = cond_either (λ (n : ℕ). n ≤ 31) (leb u 31) u 31 (λ h. leb-true u 31 h) (λ h. omega arith)
+carried_31 u = cond_both (leb u 31) u 31 (λ (n : ℕ). n ≤ 31) (λ h. leb-true u 31 h) (λ h. omega arith)
 
 -- the flits that are stored in a row
 row : (places first from : ℕ) (store : List ℕ) (xs : List (List ℕ)) (n : ℕ) → n ≤ length xs
@@ -168,19 +162,19 @@ module _ (Ok : Bool → Type 0) (f g : Stream) (store hold : List ℕ) (handed :
           information = information;
           previous = record { 0 = n };
           start = record { 0 = h.cursor i };
-          last = record { 0 = Rattle.flit_number.specs.Numbers.acknowledge_for meaning width (k.wanted i) };
+          last = record { 0 = acknowledge_for meaning width (k.wanted i) };
           errors = errors;
           stalled = some_test n i;
           nack = (ap is_wait k.mode ∙ wait_test e.r.mode) i;
         })
 
     replay_fields : (length replay_here ≡ 64) × (8 < (fields_of replay_here).run.0) × (right replay_here ≡ true)
-    unfolding Rattle.flit_number.specs.Numbers.acknowledge_for
+    unfolding acknowledge_for
     replay_fields =
         let r =
         replay_read (replay_of f e.s.cursor n errors information (some n) (num g e.r.wanted) (is_waiting e.r.mode)) small_information
-        (Rattle.flit_number.proofs.Laws.difference_lt width (wrap (num g e.r.wanted)) 1)
-        (native.Mathlib.Nat.mod-lt (num f e.s.cursor) (lib.Pow.pow_pos width)) (omega (arith, n≤)) small_errors in
+        (difference_lt width (wrap (num g e.r.wanted)) 1)
+        (mod-lt (num f e.s.cursor) (pow_pos width)) (omega (arith, n≤)) small_errors in
         (r.size, omega (arith, r.is_replay), r.right_alone)
 
     told_stands : Stands f store (told e.s) (with_untold 0 (with_pending false q))
@@ -207,10 +201,10 @@ module _ (Ok : Bool → Type 0) (f g : Stream) (store hold : List ℕ) (handed :
           e' = _;
           does = replays (o.0 replay_fields.2) (o.1.0 replay_fields.2) live p;
           reads =
-              subst (ReadsAll f z (item (replay (is_waiting e.r.mode) e.s.cursor n (some n) (num g e.r.wanted)) (right v) e.s.oldest e.s.sent ∷ item (replay (is_waiting e.r.mode) e.s.cursor n (some n) (num g e.r.wanted)) (right w) e.s.oldest e.s.sent ∷ []))
-              (sym
-              (ap₂ (λ (x y : List Flight). x ++ (y ++ [])) (alone_reads (record { sent = replay_here; arrives = v }) (replay_size v a.0))
-              (alone_reads (record { sent = replay_here; arrives = w }) (replay_size w a.1.0))))
+              rw (
+                alone_reads (record { sent = replay_here; arrives = v }) (replay_size v a.0),
+                alone_reads (record { sent = replay_here; arrives = w }) (replay_size w a.1.0),
+              )
               ((replay_one v a.0 z).0, replay_one w a.1.0 z);
           sized =
               let a' = size_of v 0 (replay_size v a.0) in
@@ -237,7 +231,7 @@ module _ (Ok : Bool → Type 0) (f g : Stream) (store hold : List ℕ) (handed :
           e' = _;
           does = idles {k = a} (o.0 r.right_alone) live p (omega arith);
           reads =
-              subst (ReadsAll f z (item (idle a (some n) n) (right v) e.s.oldest e.s.sent ∷ [])) (sym (ap (λ (x : List Flight). x ++ []) (alone_reads (record { sent = idle_here a (some n); arrives = v }) (damage_size (idle_here a (some n)) v ar.0.damage ∙ r.size))))
+              rw (alone_reads (record { sent = idle_here a (some n); arrives = v }) (damage_size (idle_here a (some n)) v ar.0.damage ∙ r.size))
               (idle_comes f z e.s.oldest e.s.sent a n (some n) v (omega arith) n≤ ar.0);
           sized =
               let a' = size_of v 0 (damage_size (idle_here a (some n)) v ar.0.damage ∙ r.size) in
@@ -312,27 +306,25 @@ module _ (Ok : Bool → Type 0) (f g : Stream) (store hold : List ℕ) (handed :
           sum : num f e.s.cursor + (n + 1) ≡ num f (suc e.s.cursor)
           sum = omega arith
 
-          past : Rattle.flit_number.specs.Numbers.after width q.cursor.0 (n + 1) ≡ wrap (num f (suc e.s.cursor))
+          past : after width q.cursor.0 (n + 1) ≡ wrap (num f (suc e.s.cursor))
           past =
-              ap (λ (a : ℕ). Rattle.flit_number.specs.Numbers.after width a (n + 1)) h.cursor ∙ after_wrap width (num f e.s.cursor) (n + 1) ∙ ap wrap sum
+              ap (λ (a : ℕ). after width a (n + 1)) h.cursor ∙ after_wrap width (num f e.s.cursor) (n + 1) ∙ ap wrap sum
 
           at_s : sent_at q ≡ num f e.s.sent - num f e.s.oldest
           at_s = at_sent f store e.s q l h fo
 
           go : Dec (e.s.sent < suc e.s.cursor)
-              → cond (ltb (sent_at q) (cursor_at q + (n + 1))) (Rattle.flit_number.specs.Numbers.after width q.cursor.0 (n + 1)) q.sent.0
+              → cond (ltb (sent_at q) (cursor_at q + (n + 1))) (after width q.cursor.0 (n + 1)) q.sent.0
               ≡ wrap (num f (max e.s.sent (suc e.s.cursor)))
           go (yes c) =
               let d : e.s.sent ≡ e.s.cursor = omega (arith, l.behind) in
               let v : num f e.s.sent ≡ num f e.s.cursor = ap (num f) d in
               let m : max e.s.sent (suc e.s.cursor) ≡ suc e.s.cursor = omega arith in
-              cond_true (ltb (sent_at q) (cursor_at q + (n + 1))) _ _ (lt-ltb (sent_at q) (cursor_at q + (n + 1)) (omega (arith, at_s, at_c)))
-              ∙ past ∙ ap (λ (a : ℕ). wrap (num f a)) (sym m)
+              simp (lt-ltb (sent_at q) (cursor_at q + (n + 1)) (omega (arith, at_s, at_c))) (past ∙ ap (λ (a : ℕ). wrap (num f a)) (sym m))
           go (no c) =
               let v : num f (suc e.s.cursor) ≤ num f e.s.sent = num_le f (suc e.s.cursor) e.s.sent (omega arith) in
               let m : max e.s.sent (suc e.s.cursor) ≡ e.s.sent = omega arith in
-              cond_false (ltb (sent_at q) (cursor_at q + (n + 1))) _ _ (le-ltb (sent_at q) (cursor_at q + (n + 1)) (omega (arith, at_s, at_c, low)))
-              ∙ h.sent ∙ ap (λ (a : ℕ). wrap (num f a)) (sym m)
+              simp (le-ltb (sent_at q) (cursor_at q + (n + 1)) (omega (arith, at_s, at_c, low))) (h.sent ∙ ap (λ (a : ℕ). wrap (num f a)) (sym m))
 
       -- what arrives for it
       module _ (a : ℕ) (le : a ≤ 31) (v : List ℕ) (ar : Arrives (unit_here a) v) where
@@ -348,18 +340,14 @@ module _ (Ok : Bool → Type 0) (f g : Stream) (store hold : List ℕ) (handed :
             (spread (record { sent = unit_here a; arrives = v }) 0 (length v / 64))
         comes zz lo hi em =
             let c : length v / 64 ≡ suc n = omega (arith, size) in
-            subst
-            (λ (i : ℕ). ReadsAll f zz
-            (Step.carried lo hi (right v) (pieces v 0 n) (item (control u.body u.run a (some u.run)) (right v) lo hi ∷ []))
-            (spread (record { sent = unit_here a; arrives = v }) 0 i))
-            (sym c)
+            rw c
             (unit_reads f lo hi u.run a u.body (some u.run) (right v) (record { sent = unit_here a; arrives = v }) zz 0 n
             (ap joined em) (omega (arith, size)) refl (made_unit u ta a (some u.run) le) (ar.no_replay (made_no_replay u ta a (some u.run) le))
             (λ r. says r) same)
           where
-            says : right v ≡ true → Rattle.proof_wire.proofs.Says.SaysControl u.body u.run a (some u.run) (flit_at v (0 + n))
+            says : right v ≡ true → SaysControl u.body u.run a (some u.run) (flit_at v (0 + n))
             says r =
-                subst (Rattle.proof_wire.proofs.Says.SaysControl u.body u.run a (some u.run))
+                subst (SaysControl u.body u.run a (some u.run))
                 (ap₂ flit_at (sym (same r)) (len ∙ omega arith)) (made_says u ta a (some u.run) le)
 
         parts : right v ≡ true → pieces v 0 n ≡ u.parts
@@ -377,7 +365,7 @@ module _ (Ok : Bool → Type 0) (f g : Stream) (store hold : List ℕ) (handed :
             e' = _;
             does = alone {k = a} (ok.0 (made_right u ta a (some u.run) (omega arith))) live p room o (omega arith);
             reads =
-                subst (ReadsAll f z (item (control u.body u.run a (some u.run)) (right v) e.s.oldest (max e.s.sent (suc e.s.cursor)) ∷ [])) (sym (append-nil (spread (record { sent = unit_here a; arrives = v }) 0 (length v / 64))))
+                rw (append-nil (spread (record { sent = unit_here a; arrives = v }) 0 (length v / 64)))
                 (subst
                 (λ (xs : List (List ℕ)). ReadsAll f z
                 (Step.carried e.s.oldest (max e.s.sent (suc e.s.cursor)) (right v) xs
@@ -411,14 +399,12 @@ module _ (Ok : Bool → Type 0) (f g : Stream) (store hold : List ℕ) (handed :
                 Step.burst a b (right v) (pieces v 0 n) (ok.0 r.right_alone) (ok.1.0 (made_right u ta b (some u.run) lb)) live p room o (omega arith)
                 (length_pieces v 0 n) (parts b lb v ar.1.0);
             reads =
-                subst (ReadsAll f z (item (idle a false n) (right x) e.s.oldest e.s.sent ∷ Step.carried e.s.oldest (max e.s.sent (suc e.s.cursor)) (right v) (pieces v 0 n) (item (control u.body u.run b (some u.run)) (right v) e.s.oldest (max e.s.sent (suc e.s.cursor)) ∷ [])))
-                (sym
-                (ap (λ (xs : List Flight). xs ++ (spread (record { sent = unit_here b; arrives = v }) 0 (length v / 64) ++ []))
-                (alone_reads (record { sent = idle_here a false; arrives = x }) (damage_size (idle_here a false) x ar.0.damage ∙ r.size)))) (
+                rw (
+                  alone_reads (record { sent = idle_here a false; arrives = x }) (damage_size (idle_here a false) x ar.0.damage ∙ r.size),
+                  append-nil (spread (record { sent = unit_here b; arrives = v }) 0 (length v / 64)),
+                ) (
                   (idle_comes f z e.s.oldest e.s.sent a n false x (omega arith) n≤ ar.0).0,
-                  subst (ReadsAll f (chain_after z (item (idle a false n) (right x) e.s.oldest e.s.sent)) (Step.carried e.s.oldest (max e.s.sent (suc e.s.cursor)) (right v) (pieces v 0 n) (item (control u.body u.run b (some u.run)) (right v) e.s.oldest (max e.s.sent (suc e.s.cursor)) ∷ [])))
-                      (sym (append-nil (spread (record { sent = unit_here b; arrives = v }) 0 (length v / 64))))
-                      (comes b lb v ar.1.0 (chain_after z (item (idle a false n) (right x) e.s.oldest e.s.sent)) e.s.oldest hi t.rest.none),
+                  (comes b lb v ar.1.0 (chain_after z (item (idle a false n) (right x) e.s.oldest e.s.sent)) e.s.oldest hi t.rest.none),
                 );
             sized =
                 let a' = size_of x 0 (damage_size (idle_here a false) x ar.0.damage ∙ r.size) in
@@ -440,16 +426,7 @@ module _ (Ok : Bool → Type 0) (f g : Stream) (store hold : List ℕ) (handed :
 
     emitted : (flits : List ℕ) (us : List (List ℕ)) (count : ℕ) (p : KeptEnd) → units_of flits ≡ us → length flits ≡ count * 64 → Follows us p
         → Emitted flits count p
-    emitted flits us count p u s k' = record { size = s; follows = subst (λ (ws : List (List ℕ)). Follows ws p) (sym u) k' }
-
-    -- a step of the choice, in the three things that go by it
-    chosen_yes : (b : Bool) (x x' : List ℕ) (c c' : ℕ) (p p' : KeptEnd) → b ≡ true → Emitted x c p → Emitted (cond b x x') (cond b c c') (cond b p p')
-    chosen_yes true x x' c c' p p' h k' = k'
-    chosen_yes false x x' c c' p p' h k' = absurd (true≢false (sym h))
-
-    chosen_no : (b : Bool) (x x' : List ℕ) (c c' : ℕ) (p p' : KeptEnd) → b ≡ false → Emitted x' c' p' → Emitted (cond b x x') (cond b c c') (cond b p p')
-    chosen_no true x x' c c' p p' h k' = absurd (true≢false h)
-    chosen_no false x x' c c' p p' h k' = k'
+    emitted flits us count p u s k' = record { size = s; follows = rw u k' }
 
     waits_yes : e.s.cursor < e.s.accepted → unit_at_cursor q ≡ true
     waits_yes c =
@@ -465,7 +442,7 @@ module _ (Ok : Bool → Type 0) (f g : Stream) (store hold : List ℕ) (handed :
     case_replays : e.s.pending ≡ true
         → Emitted (replay_sent q n errors information ++ replay_sent q n errors information) 2 (with_untold 0 (with_pending false q))
     case_replays p =
-        subst (λ (r : List ℕ). Emitted (r ++ r) 2 (with_untold 0 (with_pending false q))) (sym replay_is)
+        rw replay_is
         (emitted (replay_here ++ replay_here) (replay_here ∷ replay_here ∷ []) 2 (with_untold 0 (with_pending false q))
         (units_two replay_here replay_here replay_fields.0 replay_fields.1 (omega (arith, replay_fields.0)))
         (length-append replay_here replay_here ∙ omega (arith, replay_fields.0)) (by_replays p))
@@ -474,7 +451,7 @@ module _ (Ok : Bool → Type 0) (f g : Stream) (store hold : List ℕ) (handed :
     case_idle p =
         let c = sending.carried q.untold.0 in
         let r = idle_read c (some n) n (carried_31 q.untold.0) (omega (arith, n≤)) in
-        subst (λ (b : Bool). Emitted (idle_flit c b n) 1 (with_untold (fallen q.untold.0) q)) (sym (some_test n))
+        rw (some_test n)
         (emitted (idle_flit c (some n) n) (idle_flit c (some n) n ∷ []) 1 (with_untold (fallen q.untold.0) q)
         (units_dl (idle_flit c (some n) n) r.size (omega (arith, r.is_idle))) (omega (arith, r.size))
         (λ vs. by_idles p vs c (ap sending.carried k.untold)))
@@ -487,7 +464,7 @@ module _ (Ok : Bool → Type 0) (f g : Stream) (store hold : List ℕ) (handed :
         let ta = fo e.s.cursor room in
         let len : length (f e.s.cursor).parts ≡ 0 = l.cut e.s.cursor room ∙ o in
         let size : length x ≡ 64 = made_size (f e.s.cursor) ta c (some (f e.s.cursor).run) (carried_31 q.untold.0) ∙ omega arith in
-        subst (λ (b : List ℕ). Emitted b 1 (with_untold (fallen q.untold.0) (past_unit q n))) (sym (unit_is p room c))
+        rw (unit_is p room c)
         (emitted x (x ∷ []) 1 (with_untold (fallen q.untold.0) (past_unit q n))
         (units_tl x size (made_alone (f e.s.cursor) ta c (some (f e.s.cursor).run) (carried_31 q.untold.0) len)) (omega arith)
         (λ vs. by_alone p room o vs c (ap sending.carried k.untold)))
@@ -504,7 +481,7 @@ module _ (Ok : Bool → Type 0) (f g : Stream) (store hold : List ℕ) (handed :
         let ta = fo e.s.cursor room in
         let size : length x ≡ suc n * 64 =
         made_size (f e.s.cursor) ta c' (some (f e.s.cursor).run) (carried_31 (fallen q.untold.0)) ∙ ap (λ (i : ℕ). suc i * 64) (l.cut e.s.cursor room) in
-        subst (λ (b : List ℕ). Emitted (y ++ b) (n + 2) (with_untold (fallen (fallen q.untold.0)) (past_unit q n))) (sym (unit_is p room c'))
+        rw (unit_is p room c')
         (emitted (y ++ x) (y ∷ x ∷ []) (n + 2) (with_untold (fallen (fallen q.untold.0)) (past_unit q n))
         (units_two y x r.size (omega (arith, r.is_idle)) (omega arith)) (length-append y x ∙ omega (arith, r.size))
         (λ vs. by_burst p room o vs c c' (ap sending.carried k.untold) (ap (λ (i : ℕ). sending.carried (i - c)) k.untold)))
@@ -516,23 +493,13 @@ module _ (Ok : Bool → Type 0) (f g : Stream) (store hold : List ℕ) (handed :
         (cond (ltb 0 n) (n + 2) 1) (with_untold (cond (ltb 0 n) (fallen (fallen q.untold.0)) (fallen q.untold.0)) (past_unit q n))
     case_unit p room = go (dec_lt 0 n)
       where
-        mid_yes : (b : Bool) (x x' : List ℕ) (c c' m m' : ℕ) → b ≡ true → Emitted x c (with_untold m (past_unit q n))
-            → Emitted (cond b x x') (cond b c c') (with_untold (cond b m m') (past_unit q n))
-        mid_yes true x x' c c' m m' y k' = k'
-        mid_yes false x x' c c' m m' y k' = absurd (true≢false (sym y))
-
-        mid_no : (b : Bool) (x x' : List ℕ) (c c' m m' : ℕ) → b ≡ false → Emitted x' c' (with_untold m' (past_unit q n))
-            → Emitted (cond b x x') (cond b c c') (with_untold (cond b m m') (past_unit q n))
-        mid_no true x x' c c' m m' y k' = absurd (true≢false y)
-        mid_no false x x' c c' m m' y k' = k'
-
         go : Dec (0 < n)
             → Emitted
             (cond (ltb 0 n) (idle_flit (sending.carried q.untold.0) false n ++ unit_sent q store n (sending.carried (fallen q.untold.0)))
             (unit_sent q store n (sending.carried q.untold.0)))
             (cond (ltb 0 n) (n + 2) 1) (with_untold (cond (ltb 0 n) (fallen (fallen q.untold.0)) (fallen q.untold.0)) (past_unit q n))
-        go (yes o) = mid_yes (ltb 0 n) _ _ _ _ _ _ (lt-ltb 0 n o) (case_burst p room o)
-        go (no o) = mid_no (ltb 0 n) _ _ _ _ _ _ (le-ltb 0 n (omega arith)) (case_alone p room (omega arith))
+        go (yes o) = simp (lt-ltb 0 n o) (case_burst p room o)
+        go (no o) = simp (le-ltb 0 n (omega arith)) (case_alone p room (omega arith))
 
     emits : Emitted (burst q store n errors information) (burst_flits q n) (sending.moved q n)
     unfolding burst burst_flits sending.moved
@@ -540,12 +507,9 @@ module _ (Ok : Bool → Type 0) (f g : Stream) (store hold : List ℕ) (handed :
       where
         go : (b : Bool) → e.s.pending ≡ b → Dec (e.s.cursor < e.s.accepted)
             → Emitted (burst q store n errors information) (burst_flits q n) (sending.moved q n)
-        go true p c = chosen_yes q.pending _ _ _ _ _ _ (h.pending ∙ p) (case_replays p)
-        go false p (yes c) =
-            chosen_no q.pending _ _ _ _ _ _ (h.pending ∙ p) (chosen_yes (unit_at_cursor q) _ _ _ _ _ _ (waits_yes c) (case_unit p c))
-        go false p (no c) =
-            chosen_no q.pending _ _ _ _ _ _ (h.pending ∙ p)
-            (chosen_no (unit_at_cursor q) _ _ _ _ _ _ (waits_no (omega (arith, l.behind, l.given))) (case_idle p))
+        go true p c = simp (h.pending ∙ p) (case_replays p)
+        go false p (yes c) = let r = h.pending ∙ p in simp (r, waits_yes c) (simp r at case_unit p c)
+        go false p (no c) = let r = h.pending ∙ p in simp (r, waits_no (omega (arith, l.behind, l.given))) (simp r at case_idle p)
 
     pub emits_all : Emitted (burst q store (previous_run q store) errors information) (burst_flits q (previous_run q store)) (sending.moved q (previous_run q store))
-    emits_all = subst (λ (m : ℕ). Emitted (burst q store m errors information) (burst_flits q m) (sending.moved q m)) (sym run_here) emits
+    emits_all = rw run_here emits

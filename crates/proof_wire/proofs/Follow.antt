@@ -5,25 +5,23 @@ use mathlib.Core.Bool.{Bool, true, false, ◌&&◌, cond}
 use mathlib.Core.List.{List, ◌++◌}
 use Prim.Native.Nat.{ℕ, ◌*◌, ◌≤◌}
 use native.Mathlib.Omega.{arith}
-use lib.Dec.{eqb}
+use Rattle.std.proofs.Math.Bool.{and-false}
 use lib.ListN.{take}
 use Rattle.crc.specs.Unit.{right}
 use Rattle.flit_read.specs.Fields.{fields_of, replay_kind as replay_run, idle_kind as idle_run}
 use Rattle.end_state.specs.State.{is_run}
 use Rattle.end_state.specs.declared.End.{End as KeptEnd}
 use Rattle.end_state.specs.declared.Mode.{Mode as KeptMode}
-use Rattle.end_state.proofs.Tests.{and_true, and_false_l, cond_true, cond_false}
-use Rattle.receive_test.specs.Arrivals.{holds, closes, checked, damaged, skips}
+use Rattle.receive_test.specs.Arrivals.{holds, closes, checked}
 use Rattle.receive_answer.specs.Answers.{replay_answer, run_answer, wait_answer, mode_answer}
 use Rattle.receive_answer.specs.declared.Answer.{Answer}
 use Rattle.proof_model.proofs.Stream.{Stream, Flit, Item, part, control, idle, replay}
 use Rattle.proof_model.proofs.End.{Mode, run, wait, down, End}
-use Rattle.proof_model.proofs.Step.{item}
+use Rattle.proof_model.proofs.Step.{item, Alone}
 use Rattle.proof_model.proofs.Chain.{Chain, Rest}
 use Rattle.proof_model.proofs.Inv.{Runs, At, Head}
 use Rattle.proof_model.proofs.Receive.{Given}
 use Rattle.proof_wire.specs.Damage.{reads_replay}
-use Rattle.proof_wire.proofs.Tests.{and_false_r}
 use Rattle.proof_wire.proofs.Pieces.{joined}
 use Rattle.proof_wire.proofs.Wrap.{most}
 use Rattle.proof_wire.proofs.Stands.{Stands, Formed}
@@ -55,18 +53,18 @@ module _ (f g : Stream) (store : List ℕ) (e : End) (d : Chain) (q : KeptEnd) (
     runs : Head g d e → e.r.mode ≡ run → Runs g d e.s.acked e.r
     runs = Arrive.runs f g store e d q hold handed fo st k small
 
-    alone_of : Runs g d e.s.acked e.r → Rest g d → Rattle.proof_model.proofs.Step.Alone e.r
+    alone_of : Runs g d e.s.acked e.r → Rest g d → Alone e.r
     alone_of = Arrive.alone_of f g store e d q hold handed fo st k small
 
-    alone_holds : Rattle.proof_model.proofs.Step.Alone e.r → holds q ≡ false
+    alone_holds : Alone e.r → holds q ≡ false
     alone_holds z =
         Looks.holds_rest q (Arrive.none_gathered f g store e d q hold handed fo st k small z.0) (Arrive.rest_bit f g store e d q hold handed fo st k small z.1)
 
-    alone_closes : Rattle.proof_model.proofs.Step.Alone e.r → closes q ≡ false
+    alone_closes : Alone e.r → closes q ≡ false
     alone_closes z = Looks.closes_rest q (Arrive.rest_bit f g store e d q hold handed fo st k small z.1)
 
-    alone_looked : (x : List ℕ) → Rattle.proof_model.proofs.Step.Alone e.r → looked x ≡ x
-    alone_looked x z = cond_false (closes q) _ _ (alone_closes z)
+    alone_looked : (x : List ℕ) → Alone e.r → looked x ≡ x
+    alone_looked x z = simp (alone_closes z)
 
     -- a closing flit
     module _ (b : List ℕ) (n a lo hi : ℕ) (bt ok : Bool) (y : Flight) (w : Given most f g e d (item (control b n a bt) ok lo hi)) (m : e.r.mode ≡ run)
@@ -86,55 +84,56 @@ module _ (f g : Stream) (store : List ℕ) (e : End) (d : Chain) (q : KeptEnd) (
         closing = ap right full_looked ∙ h.right_is
 
     -- a right replay flit in mode run
-    to_replay : (x : List ℕ) → (fields_of x).run.0 ≡ replay_run → Rattle.proof_model.proofs.Step.Alone e.r → run_answer q (fields_of x) true ≡ replay_answer q (fields_of x)
+    to_replay : (x : List ℕ) → (fields_of x).run.0 ≡ replay_run → Alone e.r → run_answer q (fields_of x) true ≡ replay_answer q (fields_of x)
     unfolding run_answer
     to_replay x ru z =
-        cond_false (holds q) _ _ (alone_holds z)
-        ∙ cond_false (damaged q (fields_of x) true) _ _ (Looks.damaged_replay q (fields_of x) ru (alone_closes z))
-        ∙ cond_false (skips (fields_of x)) _ _ (Looks.skips_known q (fields_of x) 10 ru refl)
-        ∙ cond_true (eqb (fields_of x).run.0 replay_run) _ _ (ap (λ (v : ℕ). eqb v replay_run) ru)
+        simp (
+          alone_holds z,
+          Looks.damaged_replay q (fields_of x) ru (alone_closes z),
+          Looks.skips_known q (fields_of x) 10 ru refl,
+          ru,
+        )
 
     run_follows : (i : Flit) (ok : Bool) (lo hi : ℕ) (y : Flight) → Given most f g e d (item i ok lo hi) → e.r.mode ≡ run → Reads g d.got i ok y
         → Goal (item i ok lo hi) (flit y) (run_answer q (fields_of (flit y)) (right (looked (flit y))))
     run_follows (part v) ok lo hi y w m h = Arrive.on_part f g store e d q hold handed fo st k small v y lo hi ok _ w m h
     run_follows (control b n a bt) true lo hi y w m h =
-        subst (λ (c : Bool). Goal (item (control b n a bt) true lo hi) (flit y) (run_answer q (fields_of (flit y)) c)) (sym (closing b n a lo hi bt true y w m h))
+        rw (closing b n a lo hi bt true y w m h)
         (Arrive.on_control f g store e d q hold handed fo st k small y b n a lo hi bt w m (h.says refl) h.size)
     run_follows (control b n a bt) false lo hi y w m h =
-        subst (λ (c : Bool). Goal (item (control b n a bt) false lo hi) (flit y) (run_answer q (fields_of (flit y)) c)) (sym (closing b n a lo hi bt false y w m h))
+        rw (closing b n a lo hi bt false y w m h)
         (Arrive.on_spoiled f g store e d q hold handed fo st k small (control b n a bt) (flit y) lo hi m (Looks.holds_full q (full b n a lo hi bt false y w m h)))
     run_follows (idle a bt n) true lo hi y w m h =
         let z = alone_of (runs w.head m) w.fits.fit.rest in
-        subst (λ (c : Bool). Goal (item (idle a bt n) true lo hi) (flit y) (run_answer q (fields_of (flit y)) c)) (sym (ap right (alone_looked (flit y) z) ∙ h.right_is))
+        rw (ap right (alone_looked (flit y) z) ∙ h.right_is)
         (Arrive.on_idle f g store e d q hold handed fo st k small y n a lo hi bt w m (h.says refl))
     run_follows (idle a bt n) false lo hi y w m h =
         let z = alone_of (runs w.head m) w.fits.fit.rest in
-        subst (λ (c : Bool). Goal (item (idle a bt n) false lo hi) (flit y) (run_answer q (fields_of (flit y)) c)) (sym (ap right (alone_looked (flit y) z) ∙ h.right_is))
+        rw (ap right (alone_looked (flit y) z) ∙ h.right_is)
         (Arrive.on_spoiled f g store e d q hold handed fo st k small (idle a bt n) (flit y) lo hi m (alone_holds z))
     run_follows (replay na p n bt t) true lo hi y w m h =
         let z = alone_of (runs w.head m) w.fits.fit.rest in
         let s = h.says refl in
-        subst (λ (c : Bool). Goal (item (replay na p n bt t) true lo hi) (flit y) (run_answer q (fields_of (flit y)) c)) (sym (ap right (alone_looked (flit y) z) ∙ h.right_is))
-        (subst (Goal (item (replay na p n bt t) true lo hi) (flit y)) (sym (to_replay (flit y) s.run z))
+        rw (ap right (alone_looked (flit y) z) ∙ h.right_is)
+        (rw (to_replay (flit y) s.run z)
         (Anew.on_replay f g store e d q hold handed fo st k small y p n t lo hi na bt w s run (λ v. no_down v) m))
     run_follows (replay na p n bt t) false lo hi y w m h =
         let z = alone_of (runs w.head m) w.fits.fit.rest in
-        subst (λ (c : Bool). Goal (item (replay na p n bt t) false lo hi) (flit y) (run_answer q (fields_of (flit y)) c)) (sym (ap right (alone_looked (flit y) z) ∙ h.right_is))
+        rw (ap right (alone_looked (flit y) z) ∙ h.right_is)
         (Arrive.on_spoiled f g store e d q hold handed fo st k small (replay na p n bt t) (flit y) lo hi m (alone_holds z))
 
     -- in mode wait only a right replay flit counts
     plain_skips : (i : Item) (x : List ℕ) → e.r.mode ≡ wait → reads_replay x ≡ false → Goal i x (wait_answer q (fields_of x) (right x))
     unfolding wait_answer reads_replay
-    plain_skips i x m h =
-        subst (Goal i x) (sym (cond_false (right x && eqb (fields_of x).run.0 replay_run) _ _ h)) (Arrive.on_skip f g store e d q hold handed fo st k small i x m)
+    plain_skips i x m h = simp h (Arrive.on_skip f g store e d q hold handed fo st k small i x m)
 
     not_right : (x : List ℕ) → right x ≡ false → reads_replay x ≡ false
     unfolding reads_replay
-    not_right x h = and_false_l (right x) (eqb (fields_of x).run.0 replay_run) h
+    not_right x h = simp h
 
     not_replay : (x : List ℕ) → (fields_of x).run.0 ≡ idle_run → reads_replay x ≡ false
     unfolding reads_replay
-    not_replay x h = ap (λ (n : ℕ). right x && eqb n replay_run) h ∙ and_false_r (right x)
+    not_replay x h = simp (h, and-false)
 
     wait_follows : (i : Flit) (ok : Bool) (lo hi : ℕ) (y : Flight) → Given most f g e d (item i ok lo hi) → e.r.mode ≡ wait → Reads g d.got i ok y
         → Goal (item i ok lo hi) (flit y) (wait_answer q (fields_of (flit y)) (right (flit y)))
@@ -145,10 +144,7 @@ module _ (f g : Stream) (store : List ℕ) (e : End) (d : Chain) (q : KeptEnd) (
     wait_follows (idle a bt n) false lo hi y w m h = plain_skips (item (idle a bt n) false lo hi) (flit y) m (not_right (flit y) h.right_is)
     wait_follows (replay na p n bt t) true lo hi y w m h =
         let s = h.says refl in
-        subst (Goal (item (replay na p n bt t) true lo hi) (flit y))
-        (sym
-        (cond_true (right (flit y) && eqb (fields_of (flit y)).run.0 replay_run) _ _
-        (and_true (right (flit y)) (eqb (fields_of (flit y)).run.0 replay_run) h.right_is (ap (λ (v : ℕ). eqb v replay_run) s.run))))
+        simp (h.right_is, s.run)
         (Anew.on_replay f g store e d q hold handed fo st k small y p n t lo hi na bt w s wait (λ v. wait_down v) m)
     wait_follows (replay na p n bt t) false lo hi y w m h =
         plain_skips (item (replay na p n bt t) false lo hi) (flit y) m (not_right (flit y) h.right_is)

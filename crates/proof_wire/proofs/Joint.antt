@@ -1,25 +1,26 @@
 -- Two ends on bytes and two ends of the abstract link, side by side: what each kept state stands for, what each wire carries, and the
 -- invariant. Each call keeps it. `x` and `y` say whether what a and what b have sent is all unaltered, and then what holds besides.
 use mathlib.Core.Path.{◌≡◌, refl, ap, sym, subst, ◌∙◌}
-use mathlib.Core.Bool.{Bool, true, false, not, ◌&&◌, false≢true}
+use mathlib.Core.Bool.{Bool, true, false, false≢true}
 use mathlib.Core.Logic.{◌≢◌}
 use mathlib.Core.List.{List, [], ◌∷◌, ◌++◌, map, append-nil}
 use Prim.Native.Nat.{ℕ, suc, ◌+◌, ◌*◌, ◌^◌, ◌≤◌, ◌<◌}
 use native.Mathlib.Omega.{arith}
 use native.Mathlib.Decide.{dec_lt}
-use borrow.Author.Tests.{lt-ltb, le-ltb, ltb-true, eq-eqb}
-use lib.Dec.{ltb, eqb}
+use borrow.Author.Tests.{lt-ltb, le-ltb, ltb-true}
 use lib.ListN.{length, drop, get_or, length-append, get_or-append}
 use lib.Seq.{drop-cons, drop-append-le, take_at, get_or-append-add}
+use Rattle.std.specs.Prelude.{Result, Ok, Err}
+use Rattle.std.proofs.lemmas.List.{map-append}
 use Rattle.crc.specs.Unit.{right, AllBytes}
 use Rattle.flit_read.specs.Bytes.{number}
 use Rattle.flit_read.specs.Fields.{fields_of}
 use Rattle.end_state.specs.Refusals.{store_is, sound, is_down, previous_run, last_run}
 use Rattle.end_state.specs.declared.End.{End as KeptEnd}
+use Rattle.end_state.specs.declared.Refusal.{Refusal}
 use Rattle.end_state.specs.declared.Refusal.TheVariants as refusal
-use Rattle.end_state.specs.declared.Verdict.{Verdict}
-use Rattle.end_state.specs.declared.Verdict.TheVariants.{Refused, Admitted}
-use Rattle.end_state.proofs.Tests.{and_true, cond_true, cond_false}
+use Rattle.accept_verdict.specs.Admission.{accept_verdict}
+use Rattle.accept_verdict.proofs.Admitted.{Admission, admission}
 use Rattle.accept.specs.Accept as accept
 use Rattle.send_state.specs.Moves as moving
 use Rattle.send_burst.specs.Burst as sending
@@ -40,7 +41,7 @@ use Rattle.proof_model.proofs.Begin.{swap}
 use Rattle.proof_model.proofs.Clean.{Clean, Straight, sender_gives, sender_sends, sender_takes, receiver_gives, receiver_sends, receiver_takes}
 use Rattle.proof_model.proofs.Tidy.{Tidy, tidy_send, tidy_receive, Framed, framed}
 use Rattle.proof_wire.specs.Damage.{Arrives, units_of}
-use Rattle.proof_wire.specs.System.{WireSide, Passage, Wire, System, ArriveAll, with_accepted, wire_bytes, passing, put, arriving, on_the_way, oldest_flit, handed_by, receiving, take_one, calls, accepts, sends, receives, turned}
+use Rattle.proof_wire.specs.System.{WireSide, Passage, Wire, System, ArriveAll, with_accepted, wire_bytes, flits_sent, passing, put, arriving, on_the_way, oldest_flit, handed_by, receiving, take_one, calls, accepts, sends, receives, turned}
 use Rattle.proof_wire.specs.Theorem.{as_handed}
 use Rattle.proof_wire.proofs.Wrap.{most}
 use Rattle.proof_wire.proofs.Stands.{Stands, Taken, Formed, owed_le}
@@ -48,10 +49,10 @@ use Rattle.proof_wire.proofs.Says.{Flight, flit, Reads, ReadsAll, reads_append, 
 use Rattle.proof_wire.proofs.Arrive.{Followed, Came}
 use Rattle.proof_wire.proofs.Follow.{follows}
 use Rattle.proof_wire.proofs.Sound.{store_right, sound_right, last_run_is}
-use Rattle.proof_wire.proofs.Offer.{block_of, Offered, offered, block_bytes, block_taken, has_room, accept_stands}
+use Rattle.proof_wire.proofs.Offer.{block_of, block_bytes, block_taken, has_room, accept_stands}
 use Rattle.proof_wire.proofs.Makes.{flights, Sized}
 use Rattle.proof_wire.proofs.Emits.{Oks, Sends, Emitted, emits_all}
-use Rattle.proof_wire.proofs.Along.{sized_append, flights_append, length_arriving, none, Located, locate, handeds, sents, sents_append, map_append, units_along}
+use Rattle.proof_wire.proofs.Along.{sized_append, flights_append, length_arriving, none, at as flight_at, Located, locate, handeds, sents, sents_append, units_along}
 
 -- what is known of each unit sent one way: that it is right, or nothing
 abbrev pub Kind : Bool → Bool → Type 0
@@ -174,7 +175,7 @@ module _ (x y : Bool) (f g : Stream) (s : System) (j : Joint x y f g s) where
 
   module _ (unit : List ℕ) (are_bytes : AllBytes unit) where
     -- the system after accept, by its verdict
-    abbrev offers : Verdict → System
+    abbrev offers : Result (Unit {0}) Refusal → System
     offers v =
         record {
           a =
@@ -190,7 +191,7 @@ module _ (x y : Bool) (f g : Stream) (s : System) (j : Joint x y f g s) where
           ba = s.ba;
         }
 
-    takes_it : Offered s.a.end s.a.store unit → Agrees f (s.a.accepted ++ (unit ∷ [])) → Joint x y f g (offers Admitted)
+    takes_it : Admission s.a.end s.a.store unit → Agrees f (s.a.accepted ++ (unit ∷ [])) → Joint x y f g (offers (Ok tt))
     takes_it o ag =
         record {
           e = record { s = Step.accept j.e.s; r = j.e.r };
@@ -245,21 +246,24 @@ module _ (x y : Bool) (f g : Stream) (s : System) (j : Joint x y f g s) where
         forms i lt (yes q) = j.left.formed i q
         forms i lt (no q) =
             let z : i ≡ j.e.s.accepted = omega arith in
-            subst Taken (sym (ap f z ∙ this)) (block_taken unit o.whole o.some are_bytes o.fair)
+            rw (ap f z ∙ this) (block_taken unit o.shape.whole o.shape.least are_bytes o.control)
 
         bytes : (i : ℕ) → i < length (s.a.accepted ++ (unit ∷ [])) → Dec (i < length s.a.accepted) → bytes_of (f i) ≡ get_or (s.a.accepted ++ (unit ∷ [])) i []
         bytes i lt (yes q) = j.left.as_bytes i q ∙ sym (get_or-append s.a.accepted (unit ∷ []) [] i q)
         bytes i lt (no q) =
             let z : i ≡ length s.a.accepted + 0 = omega (arith, length-append s.a.accepted (unit ∷ [])) in
             let z' : i ≡ length s.a.accepted = omega (arith, length-append s.a.accepted (unit ∷ [])) in
-            ap (λ (n : ℕ). bytes_of (f n)) z' ∙ ap bytes_of at_end ∙ block_bytes unit o.whole o.some
+            ap (λ (n : ℕ). bytes_of (f n)) z' ∙ ap bytes_of at_end ∙ block_bytes unit o.shape.whole o.shape.least
             ∙ sym (ap (λ (n : ℕ). get_or (s.a.accepted ++ (unit ∷ [])) n []) z ∙ get_or-append-add s.a.accepted (unit ∷ []) 0 [])
 
     pub by_accepts : Agrees f (calls (accepts unit) s).a.accepted → Joint x y f g (calls (accepts unit) s)
     unfolding accept.accept accept.accept_store
-    by_accepts ag =
-        offered s.a.end s.a.store unit (λ (v : Verdict). Agrees f (with_accepted v s.a.accepted unit) → Joint x y f g (offers v)) (λ r h. j)
-        takes_it ag
+    by_accepts = go (accept_verdict s.a.end s.a.store unit) refl
+      where
+        go : (v : Result (Unit {0}) Refusal) → accept_verdict s.a.end s.a.store unit ≡ v → Agrees f (with_accepted v s.a.accepted unit)
+            → Joint x y f g (offers v)
+        go (Err r) e ag = j
+        go (Ok u) e ag = takes_it (admission s.a.end s.a.store unit e) ag
 
   -- ---- send
 
@@ -283,8 +287,7 @@ module _ (x y : Bool) (f g : Stream) (s : System) (j : Joint x y f g s) where
         sized = sized_append w.passages ps o.sized z;
         le = omega (arith, ap length fl, length-append (flights w.passages) (flights ps), o.le);
         reads =
-            subst (ReadsAll f c (l ++ b))
-            (sym (ap (drop w.taken) fl ∙ drop-append-le w.taken (flights w.passages) (flights ps) o.le))
+            rw (fl, drop-append-le w.taken (flights w.passages) (flights ps) o.le)
             (reads_append f c l b (drop w.taken (flights w.passages)) (flights ps) o.reads r);
       }
 
@@ -302,10 +305,10 @@ module _ (x y : Bool) (f g : Stream) (s : System) (j : Joint x y f g s) where
     burst = sending.burst q store n errors information
 
     -- the flits on the wire and the system after send, by its verdict
-    abbrev flits_by : Verdict → List ℕ
+    abbrev flits_by : Result (Unit {0}) Refusal → List ℕ
     flits_by v = wire_bytes (send.sent_by v q n).answer (send.output_by v burst output)
 
-    abbrev system_by : Verdict → System
+    abbrev system_by : Result (Unit {0}) Refusal → System
     system_by v =
         record {
           a = record { end = (send.sent_by v q n).end; store = store; hold = s.a.hold; accepted = s.a.accepted; handed = s.a.handed };
@@ -314,7 +317,7 @@ module _ (x y : Bool) (f g : Stream) (s : System) (j : Joint x y f g s) where
           ba = s.ba;
         }
 
-    abbrev Goal : Verdict → Type 0
+    abbrev Goal : Result (Unit {0}) Refusal → Type 0
     Goal v = ArriveAll Arrives (units_of (flits_by v)) arrivals → Oks (Kind x) (passing (units_of (flits_by v)) arrivals) → Joint x y f g (system_by v)
 
     -- nothing goes on the wire
@@ -322,7 +325,7 @@ module _ (x y : Bool) (f g : Stream) (s : System) (j : Joint x y f g s) where
     unfolding units_of fields_of number
     no_units = refl
 
-    refuses : Goal (Refused refusal.Out)
+    refuses : Goal (Err refusal.Out)
     refuses a o =
         subst (λ (ps : List Passage). Joint x y f g (record { a = s.a; b = s.b; ab = record { passages = ps; taken = s.ab.taken }; ba = s.ba }))
         (sym (ap (λ (us : List (List ℕ)). s.ab.passages ++ passing us arrivals) no_units ∙ append-nil s.ab.passages)) j
@@ -333,7 +336,7 @@ module _ (x y : Bool) (f g : Stream) (s : System) (j : Joint x y f g s) where
         emits_all (Kind x) f g store s.a.hold s.a.handed j.e q j.inv.own j.left.stands j.left.kept j.left.formed (final j.c j.l)
         j.inv.to.tail live errors information small_errors small_information
 
-    wrote : flits_by Admitted ≡ burst
+    wrote : flits_by (Ok tt) ≡ burst
     wrote = take_at burst (drop (length burst) output) (sending.burst_flits q n * 64) em.size
 
     goes : (ps : List Passage) → Sends (Kind x) f g store s.a.hold s.a.handed j.e (final j.c j.l) ps (moving.moved q n)
@@ -388,42 +391,25 @@ module _ (x y : Bool) (f g : Stream) (s : System) (j : Joint x y f g s) where
             ap (λ (v : Chain). v.pos) (sym (final_append j.c j.l r.b)) ∙ k'.there ∙ k'.all in
             ap (λ (v : List Flight). map as_handed (sents v)) (flights_append s.ab.passages ps)
             ∙ ap (map as_handed) (sents_append (flights s.ab.passages) (flights ps))
-            ∙ map_append (sents (flights s.ab.passages)) (sents (flights ps))
+            ∙ map-append as_handed (sents (flights s.ab.passages)) (sents (flights ps))
             ∙ ap (λ (v : List (List ℕ)). v ++ handeds (flights ps)) (j.log t ∙ ap (λ (i : ℕ). units (first f i)) (sym here))
             ∙ units_along f z r.b (flights ps) w r.reads (straight_rest j.c j.l r.b k'.straight)
             ∙ ap (λ (i : ℕ). units (first f i)) there
 
-    admits : Goal Admitted
+    admits : Goal (Ok tt)
     admits a o =
-        subst (λ (fs : List ℕ). Joint x y f g
-        (record {
-          a = record { end = moving.moved q n; store = store; hold = s.a.hold; accepted = s.a.accepted; handed = s.a.handed };
-          b = s.b;
-          ab = put (passing (units_of fs) arrivals) s.ab;
-          ba = s.ba;
-        }))
-        (sym wrote)
-        (goes (passing (units_of burst) arrivals)
-        (em.follows arrivals (subst (λ (fs : List ℕ). ArriveAll Arrives (units_of fs) arrivals) wrote a)
-        (subst (λ (fs : List ℕ). Oks (Kind x) (passing (units_of fs) arrivals)) wrote o)))
+        rw wrote (goes (passing (units_of burst) arrivals) (em.follows arrivals (rw wrote at a) (rw wrote at o)))
 
-    pub out_short : length output < 640 → send.send_verdict q store (length output) ≡ Refused refusal.Out
+    pub out_short : length output < 640 → send.send_verdict q store (length output) ≡ Err refusal.Out
     unfolding send.send_verdict
-    out_short h =
-        cond_false (not (store_is q (length store))) _ _ (ap not fine.store_ok)
-        ∙ cond_false (not (sound q store)) _ _ (ap not fine.state_ok)
-        ∙ cond_true (ltb (length output) 640) _ _ (lt-ltb (length output) 640 h)
+    out_short h = simp (fine.store_ok, fine.state_ok, lt-ltb (length output) 640 h)
 
-    pub out_long : 640 ≤ length output → send.send_verdict q store (length output) ≡ Admitted
+    pub out_long : 640 ≤ length output → send.send_verdict q store (length output) ≡ Ok tt
     unfolding send.send_verdict
-    out_long h =
-        cond_false (not (store_is q (length store))) _ _ (ap not fine.store_ok)
-        ∙ cond_false (not (sound q store)) _ _ (ap not fine.state_ok)
-        ∙ cond_false (ltb (length output) 640) _ _ (le-ltb (length output) 640 h)
-        ∙ cond_false (is_down q.mode) _ _ fine.up
+    out_long h = simp (fine.store_ok, fine.state_ok, le-ltb (length output) 640 h, fine.up)
 
-    pub by_sends : ArriveAll Arrives (units_of (Rattle.proof_wire.specs.System.flits_sent errors information output s.a)) arrivals
-        → Oks (Kind x) (passing (units_of (Rattle.proof_wire.specs.System.flits_sent errors information output s.a)) arrivals)
+    pub by_sends : ArriveAll Arrives (units_of (flits_sent errors information output s.a)) arrivals
+        → Oks (Kind x) (passing (units_of (flits_sent errors information output s.a)) arrivals)
         → Joint x y f g (calls (sends errors information output arrivals) s)
     unfolding send.send send.send_output
     by_sends = go (dec_lt (length output) 640)
@@ -460,27 +446,22 @@ module _ (x y : Bool) (f g : Stream) (s : System) (j : Joint x y f g s) where
 
   -- a receive of a flit is not refused
   pub in_long : (hold flit : List ℕ) → length hold ≡ 576 → length flit ≡ 64
-      → receive.receive_verdict s.a.end s.a.store (length hold) (length flit) ≡ Admitted
+      → receive.receive_verdict s.a.end s.a.store (length hold) (length flit) ≡ Ok tt
   unfolding receive.receive_verdict
-  in_long hold flit h k =
-      cond_false (not (store_is s.a.end (length s.a.store) && eqb (length hold) 576)) _ _
-      (ap not (and_true (store_is s.a.end (length s.a.store)) (eqb (length hold) 576) fine.store_ok (eq-eqb (length hold) 576 h)))
-      ∙ cond_false (not (sound s.a.end s.a.store)) _ _ (ap not fine.state_ok)
-      ∙ cond_false (not (eqb (length flit) 64)) _ _ (ap not (eq-eqb (length flit) 64 k))
-      ∙ cond_false (is_down s.a.end.mode) _ _ fine.up
+  in_long hold flit h k = simp (fine.store_ok, h, fine.state_ok, k, fine.up)
 
   -- the answer to a flit
   pub answer_is : (hold flit : List ℕ) → length hold ≡ 576 → length flit ≡ 64
       → receive.answer_to s.a.end s.a.store hold flit
       ≡ mode_answer s.a.end.mode s.a.end (fields_of flit) (right (checked s.a.end hold flit))
   unfolding receive.answer_to
-  answer_is hold flit h k = ap (λ (v : Verdict). receive.answer_by v s.a.end hold flit) (in_long hold flit h k)
+  answer_is hold flit h k = simp (in_long hold flit h k)
 
   -- the flit that stands next on the wire, and the item that it was meant as
   pub record Next : Type 0 where
     pub at : Located s.ba.passages s.ba.taken
     pub next_flight : Flight
-    pub is_at : next_flight ≡ Rattle.proof_wire.proofs.Along.at at.unit at.part
+    pub is_at : next_flight ≡ flight_at at.unit at.part
     pub same : flit next_flight ≡ oldest_flit s.ba
     pub lt : s.ba.taken < length (flights s.ba.passages)
     pub i : Item
@@ -503,12 +484,12 @@ module _ (x y : Bool) (f g : Stream) (s : System) (j : Joint x y f g s) where
       at = locate s.ba.passages s.ba.taken j.here.sized lt
 
       rd : ReadsAll g j.d j.m (get_or (flights s.ba.passages) s.ba.taken none ∷ drop (suc s.ba.taken) (flights s.ba.passages))
-      rd = subst (ReadsAll g j.d j.m) (drop-cons (flights s.ba.passages) s.ba.taken none lt) j.here.reads
+      rd = rw (drop-cons (flights s.ba.passages) s.ba.taken none lt) at j.here.reads
 
       go : (m : List Item) → j.m ≡ m → Next
-      go [] e = absurd (subst (λ (m : List Item). ReadsAll g j.d m (get_or (flights s.ba.passages) s.ba.taken none ∷ drop (suc s.ba.taken) (flights s.ba.passages))) e rd)
+      go [] e = absurd (rw e at rd)
       go (i ∷ m') e =
-          let r = subst (λ (m : List Item). ReadsAll g j.d m (get_or (flights s.ba.passages) s.ba.taken none ∷ drop (suc s.ba.taken) (flights s.ba.passages))) e rd in
+          let r = rw e at rd in
           record {
             at = at;
             next_flight = get_or (flights s.ba.passages) s.ba.taken none;
@@ -524,7 +505,7 @@ module _ (x y : Bool) (f g : Stream) (s : System) (j : Joint x y f g s) where
 
   module _ (nx : Next) where
     inv' : Inv most f g j.e j.p j.l (nx.i ∷ nx.m') j.c j.d
-    inv' = subst (λ (m : List Item). Inv most f g j.e j.p j.l m j.c j.d) nx.eq j.inv
+    inv' = rw nx.eq at j.inv
 
     size : length (oldest_flit s.ba) ≡ 64
     size = ap length (sym nx.same) ∙ reads_size g j.d.got nx.i.flit nx.i.ok nx.next_flight nx.reads
@@ -535,8 +516,7 @@ module _ (x y : Bool) (f g : Stream) (s : System) (j : Joint x y f g s) where
     pub did : Followed f g s.a.store s.a.hold s.a.handed j.e nx.i s.a.end (oldest_flit s.ba)
         (receive.answer_to s.a.end s.a.store s.a.hold (oldest_flit s.ba))
     did =
-        subst (Followed f g s.a.store s.a.hold s.a.handed j.e nx.i s.a.end (oldest_flit s.ba))
-        (sym (answer_is s.a.hold (oldest_flit s.ba) j.left.kept.size size))
+        rw (answer_is s.a.hold (oldest_flit s.ba) j.left.kept.size size)
         (subst
         (λ (v : List ℕ). Followed f g s.a.store s.a.hold s.a.handed j.e nx.i s.a.end v
         (mode_answer s.a.end.mode s.a.end (fields_of v) (right (checked s.a.end s.a.hold v))))
@@ -577,13 +557,13 @@ module _ (x y : Bool) (f g : Stream) (s : System) (j : Joint x y f g s) where
                 sized = j.here.sized;
                 le = rw (did.counts s.ba.taken) nx.lt;
                 reads =
-                    subst (λ (n : ℕ). ReadsAll g (after j.d nx.i) nx.m' (drop n (flights s.ba.passages))) (sym (did.counts s.ba.taken)) nx.rest;
+                    rw (did.counts s.ba.taken) nx.rest;
               };
-          clean = λ t. sender_takes f g j.e j.p j.l nx.m' j.c v.e' nx.i v.does (subst (λ (m : List Item). Clean j.e j.p j.l m j.c) nx.eq (j.clean t));
+          clean = λ t. sender_takes f g j.e j.p j.l nx.m' j.c v.e' nx.i v.does (rw nx.eq at j.clean t);
           clean' =
               λ t.
               receiver_takes most small g f j.p j.e nx.m' j.l j.d v.e' j.c nx.i inv' v.does
-              (subst (λ (m : List Item). Clean j.p j.e m j.l j.d) nx.eq (j.clean' t));
+              (rw nx.eq at j.clean' t);
           log = λ t. j.log t ∙ ap (λ (n : ℕ). units (first f n)) (same_sent t);
           log' = j.log';
         }
@@ -605,7 +585,7 @@ module _ (x y : Bool) (f g : Stream) (s : System) (j : Joint x y f g s) where
 
         same_sent : x ≡ true → j.e.s.sent ≡ v.e'.s.sent
         same_sent t =
-            let k = subst (λ (m : List Item). Clean j.e j.p j.l m j.c) nx.eq (j.clean t) in
+            let k = rw nx.eq at j.clean t in
             let k' = sender_takes f g j.e j.p j.l nx.m' j.c v.e' nx.i v.does k in
             sym k.all ∙ sym k.there ∙ k'.there ∙ k'.all
 
@@ -613,5 +593,5 @@ module _ (x y : Bool) (f g : Stream) (s : System) (j : Joint x y f g s) where
   by_receives = go (on_the_way s.ba) refl
     where
       go : (b : Bool) → on_the_way s.ba ≡ b → Joint x y f g (calls receives s)
-      go true t = subst (Joint x y f g) (sym (cond_true (on_the_way s.ba) _ s t)) (took (next t))
-      go false t = subst (Joint x y f g) (sym (cond_false (on_the_way s.ba) _ s t)) j
+      go true t = simp t (took (next t))
+      go false t = simp t j

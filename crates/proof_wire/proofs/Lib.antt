@@ -1,7 +1,5 @@
-pub mod Tests
 pub mod Pieces
 pub mod Wrap
-pub mod Places
 pub mod Stands
 pub mod Credit
 pub mod Says

@@ -1,14 +1,14 @@
 -- What an end writes, and what is read of it where it arrives. A unit is sent with its check, so what is right of what arrives is what was
 -- sent, whatever the damage; and of what was sent each field is read as it was meant.
 use mathlib.Core.Path.{◌≡◌, refl, ap, ap₂, sym, subst, ◌∙◌}
-use mathlib.Core.Bool.{Bool, true, false, not, ◌&&◌, true≢false}
+use mathlib.Core.Bool.{Bool, true, false, true≢false}
 use mathlib.Core.List.{List, [], ◌∷◌, ◌++◌, append_assoc}
 use Prim.Native.Nat.{ℕ, zero, suc, ◌+◌, ◌-◌, ◌*◌, ◌/◌, ◌^◌, ◌≤◌, ◌<◌}
 use native.Mathlib.Nat.{mod-lt}
 use native.Mathlib.Omega.{arith}
 use borrow.Author.Tests.{lt-ltb, le-ltb, eq-eqb, ne_eqb}
-use lib.Dec.{ltb, eqb}
 use lib.Pow.{pow_pos}
+use Rattle.std.proofs.Math.Bool.{and-false}
 use lib.ListN.{length, take, drop, length-append, length-drop, take-append-drop}
 use lib.Seq.{take_all, take_at, drop_at, take-take, take-add, drop-drop}
 use Rattle.flit_number.specs.Numbers.{width, acknowledge_for}
@@ -24,18 +24,17 @@ use Rattle.flit_write.specs.declared.Replay.{Replay}
 use Rattle.flit_read.proofs.Laws.{append_bytes}
 use Rattle.flit_write.proofs.RoundTrip.{idle_read, replay_read, ControlRead, control_sealed, control_told_size, control_told_bytes}
 use Rattle.end_state.specs.Ring.{flit_at}
-use Rattle.end_state.proofs.Tests.{and_false_l, and_true}
+use Rattle.end_state.proofs.Places.{flit_length}
 use Rattle.proof_model.proofs.Stream.{Block, Stream, num, part, control, idle, replay}
 use Rattle.proof_model.proofs.Step.{item, carried}
 use Rattle.proof_model.proofs.Chain.{Chain, after}
 use Rattle.proof_wire.specs.Damage.{window_bits, Damage, unaltered, odd_bits, near_bits, reads_replay, sent_replay, Arrives}
 use Rattle.proof_wire.specs.System.{Passage}
 use Rattle.proof_wire.specs.Theorem.{is_unit}
-use Rattle.proof_wire.proofs.Tests.{and_false_r}
-use Rattle.proof_wire.proofs.Pieces.{Flits, joined, cut, length_joined, joined_snoc, flit_size, flit_alone}
+use Rattle.proof_wire.proofs.Pieces.{Flits, joined, cut, length_joined, joined_snoc, flit_alone}
 use Rattle.proof_wire.proofs.Wrap.{meaning, wrap}
 use Rattle.proof_wire.proofs.Stands.{Taken, run_le}
-use Rattle.proof_wire.proofs.Says.{Flight, ends_unit, SaysControl, SaysIdle, SaysReplay, ReadsAll}
+use Rattle.proof_wire.proofs.Says.{Flight, ends_unit, SaysControl, ReadsAll}
 
 -- ---- damage
 
@@ -110,10 +109,10 @@ module _ (f : Stream) (lo hi m a : ℕ) (b : List ℕ) (st ok : Bool) (p : Passa
       ap₂ (λ (x y : List ℕ). x ++ y) g (take_all 64 (drop (k * 64) v) (omega arith)) ∙ take-append-drop (k * 64) v in (
         record {
           right_is = ap right whole ∙ r;
-          ends = and_true (eqb (suc k * 64) (length v)) (is_unit p.sent) (eq-eqb (suc k * 64) (length v) (omega arith)) iu;
+          ends = simp (eq-eqb (suc k * 64) (length v) (omega arith), iu);
           plain = pl k;
-          size = flit_size v k (omega arith);
-          says = λ t. subst (λ (i : ℕ). SaysControl b m a st (flit_at v i)) e (s t);
+          size = flit_length v k (omega arith);
+          says = λ t. rw e at s t;
           whole = whole;
           last = omega arith;
           same = sm;
@@ -126,14 +125,14 @@ module _ (f : Stream) (lo hi m a : ℕ) (b : List ℕ) (st ok : Bool) (p : Passa
       let e' : k * 64 + 64 ≡ suc k * 64 = omega arith in (
         record {
           same = refl;
-          ends = and_false_l (eqb (suc k * 64) (length v)) (is_unit p.sent) (ne_eqb (suc k * 64) (length v) (λ y. omega arith));
+          ends = simp (ne_eqb (suc k * 64) (length v) (λ y. omega arith));
           plain = pl k;
-          size = flit_size v k (omega arith);
+          size = flit_length v k (omega arith);
         },
         unit_reads (after z (item (part (flit_at v k)) ok lo hi)) (suc k) n
             (joined_snoc z.got (flit_at v k) ∙ ap (λ (x : List ℕ). x ++ flit_at v k) g ∙ sym (take-add (k * 64) 64 v) ∙ ap (λ (i : ℕ). take i v) e')
             (omega arith) r iu pl
-            (λ t. subst (λ (i : ℕ). SaysControl b m a st (flit_at v i)) e (s t)) sm,
+            (λ t. rw e at s t) sm,
       )
 
 -- a unit as it is sent
@@ -176,7 +175,7 @@ module _ (u : Block) (h : Taken u) (acks : ℕ) (st : Bool) (le : acks ≤ 31) w
   unfolding fields_of
   made_says =
       let c = made_read in
-      subst (SaysControl u.body u.run acks st) (sym made_last)
+      rw made_last
       (record {
         run = ap (λ v. v.0) c.run_read ∙ h.run;
         acks = c.acks_read;
@@ -212,31 +211,27 @@ module _ (u : Block) (h : Taken u) (acks : ℕ) (st : Bool) (le : acks ≤ 31) w
   unfolding sent_replay
   made_no_replay = go (length u.parts) refl
     where
-      go : (n : ℕ) → length u.parts ≡ n → (eqb (length made) 64 && eqb (fields_of made).run.0 replay_run) ≡ false
+      go : (n : ℕ) → length u.parts ≡ n → sent_replay made ≡ false
       go zero z =
           let a = made_alone z in
-          ap (λ (t : Bool). eqb (length made) 64 && t) (ne_eqb (fields_of made).run.0 replay_run (λ y. omega arith)) ∙ and_false_r (eqb (length made) 64)
-      go (suc n) z = and_false_l (eqb (length made) 64) (eqb (fields_of made).run.0 replay_run) (ne_eqb (length made) 64 (λ y. omega (arith, made_size)))
+          simp (ne_eqb (fields_of made).run.0 replay_run (λ y. omega arith), and-false)
+      go (suc n) z = simp (ne_eqb (length made) 64 (λ y. omega (arith, made_size)))
 
   -- it is a unit of the transaction layer
   pub made_unit : is_unit made ≡ true
   unfolding is_unit
   made_unit = go (length u.parts) refl
     where
-      go : (n : ℕ) → length u.parts ≡ n → not (eqb (length made) 64 && ltb 8 (fields_of made).run.0) ≡ true
-      go zero z =
-          ap not (ap (λ (t : Bool). eqb (length made) 64 && t) (le-ltb 8 (fields_of made).run.0 (made_alone z)) ∙ and_false_r (eqb (length made) 64))
-      go (suc n) z = ap not (and_false_l (eqb (length made) 64) (ltb 8 (fields_of made).run.0) (ne_eqb (length made) 64 (λ y. omega (arith, made_size))))
+      go : (n : ℕ) → length u.parts ≡ n → is_unit made ≡ true
+      go zero z = simp (le-ltb 8 (fields_of made).run.0 (made_alone z), and-false)
+      go (suc n) z = simp (ne_eqb (length made) 64 (λ y. omega (arith, made_size)))
 
 -- ---- an idle and a replay flit
 
 -- a flit that is a unit of its own ends no unit of the transaction layer
 pub dl_ends : (y : Flight) → length y.sent ≡ 64 → 8 < (fields_of y.sent).run.0 → ends_unit y ≡ false
 unfolding ends_unit is_unit
-dl_ends y l r =
-    ap (λ (t : Bool). eqb (suc y.part * 64) (length y.arrives) && not t)
-    (and_true (eqb (length y.sent) 64) (ltb 8 (fields_of y.sent).run.0) (eq-eqb (length y.sent) 64 l) (lt-ltb 8 (fields_of y.sent).run.0 r))
-    ∙ and_false_r (eqb (suc y.part * 64) (length y.arrives))
+dl_ends y l r = simp (l, lt-ltb 8 (fields_of y.sent).run.0 r, and-false)
 
 pub alone_reads : (p : Passage) → length p.arrives ≡ 64 → spread p 0 (length p.arrives / 64) ≡ spread p 0 1
 alone_reads p h = let e : length p.arrives / 64 ≡ 1 = omega arith in ap (spread p 0) e
@@ -253,7 +248,7 @@ idle_comes f z lo hi k n st v a c h =
         size = ap length al ∙ size;
         says =
             λ t.
-            subst (SaysIdle n k st) (sym (al ∙ right_same (idle_flit k st n) v r.are_bytes r.right_alone h.damage t))
+            rw (al ∙ right_same (idle_flit k st n) v r.are_bytes r.right_alone h.damage t)
             (record { run = r.is_idle; acks = r.acks_read; stalled = r.stalled_read; short = r.short_read; owes = r.owed_read });
       },
       tt,
@@ -288,7 +283,7 @@ replay_comes f z lo hi p n errors information t na st v c he hi' h =
         size = ap length al ∙ size;
         says =
             λ q.
-            subst (SaysReplay f na p n st t) (sym (al ∙ right_same (replay_flit w) v r.are_bytes r.right_alone h.damage q))
+            rw (al ∙ right_same (replay_flit w) v r.are_bytes r.right_alone h.damage q)
             (record {
               run = r.is_replay;
               nack = r.nack_read;

@@ -1,50 +1,17 @@
--- Lists of bytes in pieces of 64. A flit written at a place is read there, and what stands at the other places stays; a list of whole
--- flits and the bytes that they make in a row are the same thing.
+-- Lists of bytes in pieces of 64: a list of whole flits and the bytes that they make in a row are the same thing.
 use mathlib.Core.Path.{◌≡◌, refl, sym, ap, ap₂, ◌∙◌}
-use mathlib.Core.Logic.{◌≢◌}
 use mathlib.Core.List.{List, [], ◌∷◌, ◌++◌, append_assoc, append-nil}
-use Prim.Native.Nat.{ℕ, zero, suc, ◌+◌, ◌-◌, ◌*◌, ◌<◌, ◌≤◌}
+use Prim.Native.Nat.{ℕ, zero, suc, ◌+◌, ◌*◌, ◌<◌, ◌≤◌}
 use native.Mathlib.Omega.{arith}
-use native.Mathlib.Decide.{dec_lt}
 use lib.ListN.{length, take, drop, get_or, length-append, length-drop}
-use lib.Seq.{length-take-le, take-append-le, drop-append-le, drop-append-add, take_at, drop_at, take-take, drop-drop, take-add}
-use Rattle.crc.specs.Unit.{AllBytes}
-use Rattle.flit_read.proofs.Laws.{append_bytes, take_bytes, drop_bytes}
+use lib.Seq.{length-take-le, take-append-le, drop-append-le, drop-append-add, take_at, drop-drop, take-add}
 use Rattle.end_state.specs.Ring.{flit_at, put_at}
 
-pub take_of_drop : (n m : ℕ) (l : List ℕ) → n ≤ length l → take m (drop n l) ≡ drop n (take (n + m) l)
-take_of_drop n m l h = sym (ap (drop n) (take-add n m l) ∙ drop_at (take n l) (take m (drop n l)) n (length-take-le n l h))
-
 -- ---- a flit at a place
-
-pub flit_size : (s : List ℕ) (p : ℕ) → p * 64 + 64 ≤ length s → length (flit_at s p) ≡ 64
-unfolding flit_at
-flit_size s p h = length-take-le 64 (drop (p * 64) s) (rw (length-drop (p * 64) s) (omega arith))
-
-pub flit_bytes : (s : List ℕ) (p : ℕ) → AllBytes s → AllBytes (flit_at s p)
-unfolding flit_at
-flit_bytes s p h = take_bytes 64 (drop (p * 64) s) (drop_bytes (p * 64) s h)
 
 module _ (s : List ℕ) (p : ℕ) (x : List ℕ) (fits : p * 64 + 64 ≤ length s) (size : length x ≡ 64) where
   front : length (take (p * 64) s) ≡ p * 64
   front = length-take-le (p * 64) s (omega arith)
-
-  pub flit_put_same : flit_at (put_at s p x) p ≡ x
-  unfolding flit_at put_at
-  flit_put_same =
-      ap (take 64) (drop_at (take (p * 64) s) (x ++ drop (p * 64 + 64) s) (p * 64) front) ∙ take_at x (drop (p * 64 + 64) s) 64 size
-
-  pub flit_put_before : (q : ℕ) → q < p → flit_at (put_at s p x) q ≡ flit_at s q
-  unfolding flit_at put_at
-  flit_put_before q h =
-      let r = x ++ drop (p * 64 + 64) s in
-      let f = front in
-      let l : 64 ≤ length (drop (q * 64) (take (p * 64) s)) = rw (length-drop (q * 64) (take (p * 64) s)) (omega arith) in
-      ap (take 64) (drop-append-le (q * 64) (take (p * 64) s) r (omega arith))
-      ∙ take-append-le 64 (drop (q * 64) (take (p * 64) s)) r l
-      ∙ take_of_drop (q * 64) 64 (take (p * 64) s) (omega arith)
-      ∙ ap (drop (q * 64)) (take-take (q * 64 + 64) (p * 64) s (omega arith))
-      ∙ sym (take_of_drop (q * 64) 64 s (omega arith))
 
   whole_front : length (take (p * 64) s ++ x) ≡ p * 64 + 64
   whole_front = length-append (take (p * 64) s) x ∙ ap₂ (λ (m n : ℕ). m + n) front size
@@ -52,36 +19,6 @@ module _ (s : List ℕ) (p : ℕ) (x : List ℕ) (fits : p * 64 + 64 ≤ length 
   in_front : put_at s p x ≡ (take (p * 64) s ++ x) ++ drop (p * 64 + 64) s
   unfolding put_at
   in_front = sym (append_assoc (take (p * 64) s) x (drop (p * 64 + 64) s))
-
-  pub flit_put_after : (q : ℕ) → p < q → flit_at (put_at s p x) q ≡ flit_at s q
-  unfolding flit_at
-  flit_put_after q h =
-      let k = q * 64 - (p * 64 + 64) in
-      let e : q * 64 ≡ length (take (p * 64) s ++ x) + k = omega (arith, whole_front) in
-      let e' : p * 64 + 64 + k ≡ q * 64 = omega arith in
-      ap (take 64)
-      (ap₂ (λ (n : ℕ) (l : List ℕ). drop n l) e in_front
-      ∙ drop-append-add (take (p * 64) s ++ x) (drop (p * 64 + 64) s) k
-      ∙ drop-drop k (p * 64 + 64) s
-      ∙ ap (λ (n : ℕ). drop n s) e')
-
-  pub flit_put_other : (q : ℕ) → q ≢ p → flit_at (put_at s p x) q ≡ flit_at s q
-  flit_put_other q h = go (dec_lt q p)
-    where
-      go : Dec (q < p) → flit_at (put_at s p x) q ≡ flit_at s q
-      go (yes a) = flit_put_before q a
-      go (no a) = flit_put_after q (omega arith)
-
-  pub put_size : length (put_at s p x) ≡ length s
-  put_size =
-      ap length in_front ∙ length-append (take (p * 64) s ++ x) (drop (p * 64 + 64) s)
-      ∙ omega (arith, whole_front, length-drop (p * 64 + 64) s)
-
-  pub put_bytes : AllBytes s → AllBytes x → AllBytes (put_at s p x)
-  unfolding put_at
-  put_bytes hs hx =
-      append_bytes (take (p * 64) s) (x ++ drop (p * 64 + 64) s) (take_bytes (p * 64) s hs)
-      (append_bytes x (drop (p * 64 + 64) s) hx (drop_bytes (p * 64 + 64) s hs))
 
   -- the places up to this one
   pub put_front : take (suc p * 64) (put_at s p x) ≡ take (p * 64) s ++ x

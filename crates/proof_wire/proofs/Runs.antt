@@ -1,20 +1,15 @@
 -- Any run of two fresh ends keeps the two systems side by side. The streams are what has been accepted at the end of the run, so that
 -- nothing about them changes on the way.
-use mathlib.Core.Path.{◌≡◌, refl, ap, sym, subst, ◌∙◌}
-use mathlib.Core.Bool.{Bool, true, false, ◌&&◌, false≢true, cond}
+use mathlib.Core.Path.{◌≡◌, refl, ap, ◌∙◌}
+use mathlib.Core.Bool.{Bool, true, false, false≢true, cond}
 use mathlib.Core.List.{List, [], ◌∷◌, ◌++◌}
-use Prim.Native.Nat.{ℕ, ◌/◌, ◌%◌}
+use Prim.Native.Nat.{ℕ, ◌/◌}
 use native.Mathlib.Omega.{arith}
-use borrow.Author.Tests.{le-leb, eq-eqb}
-use lib.Dec.{leb, eqb}
 use lib.ListN.{length, length-append, get_or-append}
+use Rattle.std.specs.Prelude.{Result, Ok, Err}
 use Rattle.crc.specs.Unit.{right}
-use Rattle.end_state.specs.State.{store_fits, fresh, start}
-use Rattle.end_state.specs.declared.End.{End as KeptEnd}
-use Rattle.end_state.specs.declared.Started.{Started}
-use Rattle.end_state.specs.declared.Verdict.{Verdict}
-use Rattle.end_state.specs.declared.Verdict.TheVariants.{Refused, Admitted}
-use Rattle.end_state.proofs.Tests.{and_true, cond_true}
+use Rattle.end_state.specs.State.{fresh, start}
+use Rattle.end_state.specs.declared.Refusal.{Refusal}
 use Rattle.accept.specs.Accept as accept
 use Rattle.proof_model.proofs.Stream.{Stream}
 use Rattle.proof_model.proofs.End as link
@@ -23,6 +18,7 @@ use Rattle.proof_wire.specs.Damage.{Arrives, units_of}
 use Rattle.proof_wire.specs.System.{Passage, System, Lent, fresh_side, begin, with_accepted, flits_sent, passing, on_the_way, Call, accepts, sends, receives, calls, turned, Event, of_a, of_b, step, run, Given, Takes, Fair}
 use Rattle.proof_wire.specs.Theorem.{Unaltered}
 use Rattle.proof_wire.proofs.Wrap.{most}
+use Rattle.proof_wire.proofs.Sound.{fits_right}
 use Rattle.proof_wire.proofs.Offer.{block_of}
 use Rattle.proof_wire.proofs.Emits.{Oks}
 use Rattle.proof_wire.proofs.Joint.{Kind, Agrees, Linked, Joint, flip, by_accepts, by_sends, by_receives}
@@ -57,9 +53,9 @@ oks false (p ∷ ps) h = ((λ r. tt), oks false ps (λ t. absurd (false≢true t
 
 -- ---- a call
 
-agrees_offer : (f : Stream) (v : Verdict) (units : List (List ℕ)) (u : List ℕ) → Agrees f (with_accepted v units u) → Agrees f units
-agrees_offer f (Refused r) units u h = h
-agrees_offer f Admitted units u h = agrees_before f units u h
+agrees_offer : (f : Stream) (v : Result (Unit {0}) Refusal) (units : List (List ℕ)) (u : List ℕ) → Agrees f (with_accepted v units u) → Agrees f units
+agrees_offer f (Err r) units u h = h
+agrees_offer f (Ok v) units u h = agrees_before f units u h
 
 cond_same : (b : Bool) (s t : System) (x y : Bool) (f g : Stream) → Foreseen x y f g (cond b s t)
     → (Foreseen x y f g s → Foreseen x y f g t) → Foreseen x y f g t
@@ -68,7 +64,7 @@ cond_same false s t x y f g h k = h
 
 earlier_call : (x y : Bool) (f g : Stream) (c : Call) (s : System) → Foreseen x y f g (calls c s) → Foreseen x y f g s
 earlier_call x y f g (accepts unit) s h =
-    record { a = agrees_offer f (accept.accept s.a.end s.a.store unit).verdict s.a.accepted unit h.a; b = h.b; ab = h.ab; ba = h.ba }
+    record { a = agrees_offer f (accept.accept s.a.end s.a.store unit).answer s.a.accepted unit h.a; b = h.b; ab = h.ab; ba = h.ba }
 earlier_call x y f g (sends errors information output arrivals) s h =
     record { a = h.a; b = h.b; ab = λ t. unaltered_before s.ab.passages (passing (units_of (flits_sent errors information output s.a)) arrivals) (h.ab t); ba = h.ba }
 earlier_call x y f g receives s h =
@@ -105,26 +101,16 @@ runs x y f g (v ∷ vs) s j t h =
 
 -- ---- the beginning
 
-fits : (store hold : List ℕ) → Lent store hold → store_fits (length store) ≡ true
-unfolding store_fits
-fits store hold h =
-    let a = h.size in
-    let b = h.least in
-    let c = h.most in
-    and_true (eqb (length store % 64) 0 && leb 9 (length store / 64)) (leb (length store / 64) 1024)
-    (and_true (eqb (length store % 64) 0) (leb 9 (length store / 64)) (eq-eqb (length store % 64) 0 (omega arith)) (le-leb 9 (length store / 64) (omega arith)))
-    (le-leb (length store / 64) 1024 (omega arith))
-
 made : (store hold : List ℕ) (h : Lent store hold) → (start (length store)).end ≡ fresh h.capacity
 unfolding start
 made store hold h =
     let e : length store / 64 ≡ h.capacity = omega (arith, h.size) in
-    ap (λ (r : Started). r.end) (cond_true (store_fits (length store)) _ _ (fits store hold h)) ∙ ap fresh e
+    simp (fits_right (length store) h.capacity h.least h.most h.size, e)
 
 fresh_linked : (f g : Stream) (store hold : List ℕ) → Lent store hold → Linked f g link.fresh (fresh_side store hold)
 unfolding link.fresh fresh
 fresh_linked f g store hold h =
-    subst (λ (q : KeptEnd). Linked f g link.fresh (record { end = q; store = store; hold = hold; accepted = []; handed = [] })) (sym (made store hold h))
+    rw (made store hold h)
     (record {
       stands =
           record {

@@ -20,7 +20,6 @@ use Rattle.end_state.specs.Refusals.{cursor_at, sent_at, acknowledged_at}
 use Rattle.end_state.specs.Update.{with_cursor, with_pending}
 use Rattle.end_state.specs.declared.End.{End}
 use Rattle.end_state.specs.declared.walk.Walk.{Walk}
-use Rattle.end_state.proofs.Tests.{and_true, cond_true, cond_false}
 use Rattle.end_state.proofs.Walks.{inside, next_border}
 use Rattle.receive_free.specs.Acknowledge.{last_border}
 use Rattle.proof_model.proofs.Stream.{Block, Stream, owed, num}
@@ -209,8 +208,7 @@ module _ (f : Stream) (store : List ℕ) (s : Sender) (q : End) (l : Local most 
         border = ap (λ (v : Walk). v.border) b;
         sound =
             ap (λ (v : Walk). v.sound) b
-            ∙ and_true (walked q store (off i)).sound (acceptable (stored q store (off i + (walked q store (off i)).run))) w.sound
-            (ap acceptable c ∙ (fo i lt).fair);
+            ∙ simp (w.sound, c, (fo i lt).fair);
       }))
 
   pub walk_at : (i : ℕ) → s.oldest ≤ i → i ≤ s.accepted → AtBorder (walked q store (off i)) (owed f i)
@@ -225,7 +223,7 @@ module _ (f : Stream) (store : List ℕ) (s : Sender) (q : End) (l : Local most 
   border_at : (n : ℕ) → (walked q store n).border ≡ true → borders n ≡ n
   unfolding last_border
   border_at zero b = refl
-  border_at (suc n) b = cond_true (walked q store (suc n)).border (suc n) (borders n) b
+  border_at (suc n) b = simp b
 
   pub borders_in : (i j : ℕ) → s.oldest ≤ i → i ≤ s.accepted → j ≤ owed f i → borders (off i + j) ≡ off i
   unfolding last_border
@@ -234,8 +232,8 @@ module _ (f : Stream) (store : List ℕ) (s : Sender) (q : End) (l : Local most 
       let w = walk_at i a b in
       let n = inside q store kept_le (off i) w.border (suc j) (rw w.run c) in
       let e : off i + suc j ≡ suc (off i + j) = omega arith in
-      let fl : (walked q store (suc (off i + j))).border ≡ false = subst (λ (m : ℕ). (walked q store m).border ≡ false) e (n.border (omega arith)) in
-      ap borders e ∙ cond_false (walked q store (suc (off i + j))).border (suc (off i + j)) (borders (off i + j)) fl ∙ borders_in i j a b (omega arith)
+      let fl : (walked q store (suc (off i + j))).border ≡ false = rw e at n.border (omega arith) in
+      rw e (simp fl (borders_in i j a b (omega arith)))
 
 -- the unit in which a flit lies
 pub record Within (f : Stream) (i a : ℕ) : Type 0 where

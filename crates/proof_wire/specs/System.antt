@@ -1,16 +1,15 @@
 -- Two fresh ends, each with one store and one hold buffer that nobody else writes, and the two wires between them (00, condition B 3).
 -- A run is any list of accepts, sends and receives of the two, each call given the state, the store and the hold as the last one left
 -- them. The calls are those of crates accept, send and receive.
-use Rattle.std.specs.Prelude.{◌≡◌, Bool, cond, List, [], ◌∷◌, ◌++◌, ℕ, suc, ◌*◌, ◌^◌, ◌≤◌, ◌<◌, ltb, eqb, length, take}
+use Rattle.std.specs.Prelude.{◌≡◌, Bool, cond, List, [], ◌∷◌, ◌++◌, ℕ, suc, ◌*◌, ◌^◌, ◌≤◌, ◌<◌, ltb, eqb, length, take, Result, Ok, Err}
+use Rattle.flit_number.specs.declared.FlitCount.{FlitCount}
 use Rattle.crc.specs.Unit.{AllBytes}
 use Rattle.end_state.specs.State.{start}
 use Rattle.end_state.specs.Ring.{flit_at}
 use Rattle.end_state.specs.declared.End.{End}
-use Rattle.end_state.specs.declared.Verdict.{Verdict}
-use Rattle.end_state.specs.declared.Verdict.TheVariants.{Refused, Admitted}
+use Rattle.end_state.specs.declared.Refusal.{Refusal}
 use Rattle.accept.specs.Accept.{accept, accept_store}
 use Rattle.send.specs.Send.{send, send_output, flits_written}
-use Rattle.send.specs.declared.Answer.{Answer as SendAnswer}
 use Rattle.receive_answer.specs.Answers.{tells}
 use Rattle.receive_answer.specs.declared.Answer.{Answer}
 use Rattle.receive_answer.specs.declared.Answer.TheVariants as answer
@@ -69,9 +68,9 @@ begin store hold store' hold' =
 -- ---- the calls of an end
 
 -- accept is offered any unit
-abbrev pub with_accepted : Verdict → List (List ℕ) → List ℕ → List (List ℕ)
-with_accepted (Refused r) units unit = units
-with_accepted Admitted units unit = units ++ (unit ∷ [])
+abbrev pub with_accepted : Result (Unit {0}) Refusal → List (List ℕ) → List ℕ → List (List ℕ)
+with_accepted (Err r) units unit = units
+with_accepted (Ok u) units unit = units ++ (unit ∷ [])
 
 abbrev pub accepting : List ℕ → WireSide → WireSide
 accepting unit x =
@@ -79,12 +78,12 @@ accepting unit x =
       end = (accept x.end x.store unit).end;
       store = accept_store x.end x.store unit;
       hold = x.hold;
-      accepted = with_accepted (accept x.end x.store unit).verdict x.accepted unit;
+      accepted = with_accepted (accept x.end x.store unit).answer x.accepted unit;
       handed = x.handed;
     }
 
 -- send is given any link fields and any output; what it wrote goes on the wire unit by unit, and nothing where it refused
-abbrev pub wire_bytes : SendAnswer → List ℕ → List ℕ
+abbrev pub wire_bytes : Result FlitCount Refusal → List ℕ → List ℕ
 wire_bytes a output = take (flits_written a * 64) output
 
 abbrev pub flits_sent : ℕ → ℕ → List ℕ → WireSide → List ℕ
@@ -127,16 +126,7 @@ arrived_by a n = cond (eqb (tells a).refusal 0) (suc n) n
 -- a unit is handed on in the first part of hold: its data flits, then its control flit
 abbrev pub handed_by : Answer → List ℕ → List (List ℕ)
 handed_by (answer.Delivered k) hold = take (suc k.0 * 64) hold ∷ []
-handed_by (answer.Refused r) hold = []
-handed_by (answer.Down cause) hold = []
-handed_by answer.Held hold = []
-handed_by answer.Damaged hold = []
-handed_by answer.Skipped hold = []
-handed_by answer.Duplicate hold = []
-handed_by answer.Idle hold = []
-handed_by answer.Replayed hold = []
-handed_by answer.Ahead hold = []
-handed_by answer.Discarded hold = []
+handed_by _ hold = []
 
 abbrev pub receiving : List ℕ → WireSide → WireSide
 receiving flit x =

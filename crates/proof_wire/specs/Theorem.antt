@@ -60,9 +60,9 @@ pub record Demand (s : System) : Type 0 where
   -- neither end goes down
   pub up : is_down s.a.end.mode ≡ false
   -- no accept is refused with 1, 2 or 5
-  pub accept_1 : (unit : List ℕ) → verdict_number (accept s.a.end s.a.store unit).verdict ≢ 1
-  pub accept_2 : (unit : List ℕ) → verdict_number (accept s.a.end s.a.store unit).verdict ≢ 2
-  pub accept_5 : (unit : List ℕ) → verdict_number (accept s.a.end s.a.store unit).verdict ≢ 5
+  pub accept_1 : (unit : List ℕ) → verdict_number (accept s.a.end s.a.store unit).answer ≢ 1
+  pub accept_2 : (unit : List ℕ) → verdict_number (accept s.a.end s.a.store unit).answer ≢ 2
+  pub accept_5 : (unit : List ℕ) → verdict_number (accept s.a.end s.a.store unit).answer ≢ 5
   -- no send is refused but for an output under 640 bytes
   pub send_0 : (output : List ℕ) → 640 ≤ length output → verdict_number (send_verdict s.a.end s.a.store (length output)) ≡ 0
   pub send_4 : (output : List ℕ) → length output ≤ 639 → verdict_number (send_verdict s.a.end s.a.store (length output)) ≡ 4

@@ -19,7 +19,7 @@ use Rattle.end_state.specs.declared.End.{End}
 use Rattle.end_state.specs.declared.walk.Walk.{Walk}
 use Rattle.end_state.proofs.Facts.{stored_is, sound_is}
 use Rattle.end_state.proofs.Places.{place_under}
-use Rattle.end_state.proofs.Tests.{cond_either}
+use Rattle.std.proofs.lemmas.Bool.{cond_both}
 use Rattle.end_state.proofs.Walks.{fair, next_border, sound_before}
 use Rattle.receive_test.specs.Arrivals.{past_sent}
 use Rattle.receive_free.specs.Acknowledge.{freed_by, freed, sent_anew, acknowledged}
@@ -117,7 +117,7 @@ module _ (e : End) (store : List ℕ) (n : ℕ) (fit : Fitting e) (its : store_i
 
   inside_oldest : reach - gone ≤ cond (ltb 0 (e.held.0 - gone)) left_over 0
   inside_oldest =
-      cond_either (λ (m : ℕ). reach - gone ≤ m) (ltb 0 (e.held.0 - gone)) left_over 0
+      cond_both (ltb 0 (e.held.0 - gone)) left_over 0 (λ (m : ℕ). reach - gone ≤ m)
       (λ t.
       let l = ltb-true 0 (e.held.0 - gone) t in
       omega (arith, inside_unit (omega arith)))
@@ -186,7 +186,7 @@ module _ (e : End) (store : List ℕ) (n : ℕ) (fit : Fitting e) (its : store_i
 
   pub acknowledged_sends : Sends (acknowledged e store n) store
   unfolding acknowledged
-  acknowledged_sends = cond_either (λ (x : End). Sends x store) (ltb (cursor_at e) gone) _ _ passed_by stays_there
+  acknowledged_sends = cond_both (ltb (cursor_at e) gone) _ _ (λ (x : End). Sends x store) passed_by stays_there
 
 -- an acknowledgement leaves what is received as it is, and its numbers fit their type
 pub record Apart (e x : End) : Type 0 where
@@ -205,7 +205,7 @@ acknowledged_apart e store n =
     let x = freed (with_acknowledged (after width e.acknowledged.0 n) e) store (freed_by e store n) in
     let o = after_lt width e.oldest.0 (freed_by e store n) in
     let a = after_lt width e.acknowledged.0 n in
-    cond_either (Apart e) (ltb (cursor_at e) (freed_by e store n)) (sent_anew true x) x
+    cond_both (ltb (cursor_at e) (freed_by e store n)) (sent_anew true x) x (Apart e)
     (λ t.
     record { capacity = refl; owed = refl; gathered = refl; untold = refl; discards = refl; sent = refl; oldest = o; acknowledged = a })
     (λ t.

@@ -11,7 +11,8 @@ use Rattle.flit_read.specs.declared.Fields.{Fields}
 use Rattle.end_state.specs.declared.End.{End}
 use Rattle.end_state.specs.declared.Mode.{Mode}
 use Rattle.end_state.specs.declared.Mode.TheVariants.{Run, Wait, Down}
-use Rattle.end_state.proofs.Tests.{and_l, and_r, cond_either}
+use Rattle.std.proofs.lemmas.Bool.{cond_both, or_parts}
+use Rattle.end_state.proofs.Tests.{and_l, and_r}
 use Rattle.receive_test.specs.Arrivals.{holds, closes, run_wrong, stall_wrong, straddles, damaged, skips}
 use Rattle.receive_answer.specs.Answers.{replay_answer, plain_answer, run_answer, wait_answer, mode_answer}
 use Rattle.receive_answer.specs.declared.Answer.{Answer}
@@ -33,32 +34,20 @@ pub record Announced (f : Fields) : Type 0 where
   pub previous : f.previous.0 ≤ 8
 
 abbrev pub Grounds : Answer → End → Fields → Type 0
-Grounds (answer.Refused r) e f = Nothing
 Grounds answer.Held e f = Owing e
 Grounds (answer.Delivered n) e f = Control f
 Grounds answer.Duplicate e f = Control f
 Grounds answer.Idle e f = Alone e
 Grounds answer.Replayed e f = Announced f
 Grounds answer.Ahead e f = Announced f
-Grounds answer.Skipped e f = Nothing
-Grounds answer.Damaged e f = Nothing
-Grounds answer.Discarded e f = Nothing
-Grounds (answer.Down cause) e f = Nothing
-
-or_l : (a b : Bool) → (a || b) ≡ false → a ≡ false
-or_l false b h = refl
-or_l true b h = h
-
-or_r : (a b : Bool) → (a || b) ≡ false → b ≡ false
-or_r false b h = h
-or_r true b h = let z : ◌≡◌ {A = ℕ} 0 1 = cc in absurd (omega arith)
+Grounds _ e f = Nothing
 
 -- a run length that is neither skipped nor a replay or idle flit's
 control_run : (r : ℕ) → r ≤ 15 → (eqb r 9 || (leb 11 r && leb r 14)) ≡ false → eqb r replay_kind ≡ false → eqb r idle_kind ≡ false → r ≤ 8
 control_run r h s p i = go (leb 11 r) refl (leb r 14) refl
   where
     a : (r ≡ 9 → ⊥) × (r ≡ 10 → ⊥) × (r ≡ 15 → ⊥)
-    a = (eqb-false r 9 (or_l (eqb r 9) (leb 11 r && leb r 14) s), eqb-false r replay_kind p, eqb-false r idle_kind i)
+    a = (eqb-false r 9 (or_parts (eqb r 9) (leb 11 r && leb r 14) s).0, eqb-false r replay_kind p, eqb-false r idle_kind i)
 
     small : r < 11 → (r ≡ 9 → ⊥) → (r ≡ 10 → ⊥) → r ≤ 8
     small k x y = omega arith
@@ -70,7 +59,7 @@ control_run r h s p i = go (leb 11 r) refl (leb r 14) refl
     go false x y t = small (leb-false 11 r x) a.0 a.1
     go true x false t = large (leb-false r 14 t) a.2
     go true x true t =
-        let b = or_r (eqb r 9) (leb 11 r && leb r 14) s in
+        let b = (or_parts (eqb r 9) (leb 11 r && leb r 14) s).1 in
         let z : ◌≡◌ {A = ℕ} 0 1 = cc in
         absurd (omega arith)
 
@@ -97,8 +86,8 @@ unfolding holds closes damaged run_wrong
 idle_alone e f b r h d i =
     let u = closes e && ltb 8 f.run.0 in
     let v = e.stalled && ltb f.run.0 9 in
-    let x = or_l (not b || (u || v)) (stall_wrong e f) (or_l (not b || (u || v) || stall_wrong e f) (straddles e f) d) in
-    none_held e.stalled e.gathered.0 e.owed.0 f.run.0 r.none_stalled r.gathered_in h (or_l u v (or_r (not b) (u || v) x))
+    let x = (or_parts (not b || (u || v)) (stall_wrong e f) (or_parts (not b || (u || v) || stall_wrong e f) (straddles e f) d).0).0 in
+    none_held e.stalled e.gathered.0 e.owed.0 f.run.0 r.none_stalled r.gathered_in h (or_parts u v (or_parts (not b) (u || v) x).1).0
     (eqb-true f.run.0 idle_kind i)
 
 owing : (e : End) → holds e ≡ true → Owing e
@@ -126,14 +115,14 @@ pub grounds : (m : Mode) (e : End) (f : Fields) (b : Bool) → Receives e → f.
 unfolding run_answer wait_answer
 grounds Run e f b r h =
     let P : Answer → Type 0 = λ a. Grounds a e f in
-    cond_either P (holds e) _ _ (λ t. owing e t)
+    cond_both (holds e) _ _ P (λ t. owing e t)
     (λ t.
-    cond_either P (damaged e f b) _ _ (λ u. record {})
+    cond_both (damaged e f b) _ _ P (λ u. record {})
     (λ u.
-    cond_either P (skips f) _ _ (λ v. record {})
+    cond_both (skips f) _ _ P (λ v. record {})
     (λ v.
-    cond_either P (eqb f.run.0 replay_kind) _ _ (λ w. replay_grounds e f) (λ w. plain_grounds e f h v w (idle_alone e f b r t u)))))
+    cond_both (eqb f.run.0 replay_kind) _ _ P (λ w. replay_grounds e f) (λ w. plain_grounds e f h v w (idle_alone e f b r t u)))))
 grounds Wait e f b r h =
     let P : Answer → Type 0 = λ a. Grounds a e f in
-    cond_either P (b && eqb f.run.0 replay_kind) _ _ (λ t. replay_grounds e f) (λ t. record {})
+    cond_both (b && eqb f.run.0 replay_kind) _ _ P (λ t. replay_grounds e f) (λ t. record {})
 grounds Down e f b r h = record {}

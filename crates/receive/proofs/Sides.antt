@@ -12,7 +12,8 @@ use Rattle.end_state.specs.Refusals.{counts_sound, sound}
 use Rattle.end_state.specs.declared.End.{End}
 use Rattle.end_state.proofs.Facts.{sound_is}
 use Rattle.end_state.proofs.Holds.{sound_holds, counts_of, numbers_hold, units_hold}
-use Rattle.end_state.proofs.Tests.{and_l, and_r, and_true}
+use Rattle.std.proofs.lemmas.Bool.{and_from}
+use Rattle.end_state.proofs.Tests.{and_l, and_r}
 
 pub record Sending (capacity first held kept oldest cursor sent acknowledged : ℕ) (store : List ℕ) : Type 0 where
   pub first_in : first < capacity
@@ -96,13 +97,13 @@ counts_hold e store s r =
     let g = not e.stalled || eqb e.gathered.0 0 in
     let i = leb e.untold.0 1024 in
     let j = leb e.discards 63 in
-    and_true (a && b && c && d && f && g && i) j
-    (and_true (a && b && c && d && f && g) i
-    (and_true (a && b && c && d && f) g
-    (and_true (a && b && c && d) f
-    (and_true (a && b && c) d
-    (and_true (a && b) c
-    (and_true a b (lt-ltb e.first e.capacity.0 s.first_in) (le-leb e.held.0 e.capacity.0 s.held_in))
+    and_from (a && b && c && d && f && g && i) j
+    (and_from (a && b && c && d && f && g) i
+    (and_from (a && b && c && d && f) g
+    (and_from (a && b && c && d) f
+    (and_from (a && b && c) d
+    (and_from (a && b) c
+    (and_from a b (lt-ltb e.first e.capacity.0 s.first_in) (le-leb e.held.0 e.capacity.0 s.held_in))
     (le-leb e.kept.0 8 s.kept_in))
     (le-leb e.owed.0 8 r.owed_in))
     (le-leb e.gathered.0 e.owed.0 r.gathered_in))

@@ -7,6 +7,7 @@ use native.Mathlib.Omega.{arith}
 use borrow.Author.Tests.{eqb-false}
 use lib.Dec.{eqb}
 use lib.ListN.{length}
+use Rattle.std.specs.Prelude.{Result, Ok, Err}
 use Rattle.crc.specs.Unit.{right}
 use Rattle.flit_read.specs.Fields.{fields_of}
 use Rattle.flit_read.specs.declared.Fields.{Fields}
@@ -14,11 +15,10 @@ use Rattle.flit_read.proofs.Laws.{fields_fit}
 use Rattle.end_state.specs.Update.{with_gathered, with_owed, with_position, with_stalled, with_discards, with_pending}
 use Rattle.end_state.specs.Refusals.{store_is, sound}
 use Rattle.end_state.specs.declared.End.{End}
+use Rattle.end_state.specs.declared.Refusal.{Refusal}
 use Rattle.end_state.specs.declared.Mode.{Mode}
 use Rattle.end_state.specs.declared.Mode.TheVariants.{Run, Wait, Down}
-use Rattle.end_state.specs.declared.Verdict.{Verdict}
-use Rattle.end_state.specs.declared.Verdict.TheVariants.{Refused, Admitted}
-use Rattle.end_state.proofs.Tests.{cond_either}
+use Rattle.std.proofs.lemmas.Bool.{cond_both, or_left, or_right, not_from_false}
 use Rattle.receive_test.specs.Arrivals.{newly_covered, past_sent, checked}
 use Rattle.receive_answer.specs.Answers.{mode_answer}
 use Rattle.receive_answer.specs.declared.Answer.{Answer}
@@ -42,13 +42,8 @@ pub record Kept (e x : End) (store : List ℕ) : Type 0 where
   pub acknowledged : x.acknowledged.0 < 2 ^ 16
   pub sent : x.sent.0 < 2 ^ 16
 
-or_right : (a : Bool) → (a || true) ≡ true
-or_right true = refl
-or_right false = refl
-
 while_open : (a b : Bool) → a ≡ false → (not a || b) ≡ true
-while_open false b h = refl
-while_open true b h = let z : ◌≡◌ {A = ℕ} 0 1 = cc in absurd (omega arith)
+while_open a b h = or_left (not a) b (not_from_false a h)
 
 module _ (e : End) (store : List ℕ) where
   waiting_kept : (x : End) → Kept e x store → Kept e (waiting x) store
@@ -60,7 +55,7 @@ module _ (e : End) (store : List ℕ) where
             record {
               owed_in = k.receives.owed_in;
               gathered_in = omega arith;
-              none_stalled = or_right (not x.stalled);
+              none_stalled = or_right (not x.stalled) true refl;
               untold_in = k.receives.untold_in;
               discards_in = omega arith;
             };
@@ -91,7 +86,7 @@ module _ (e : End) (store : List ℕ) where
   discarded_kept : (x : End) → Kept e x store → Kept e (discarded x) store
   unfolding discarded
   discarded_kept x k =
-      cond_either (λ (y : End). Kept e y store) (eqb (x.discards + 1) 64) _ _
+      cond_both (eqb (x.discards + 1) 64) _ _ (λ (y : End). Kept e y store)
       (λ t. counted (with_pending true x) 0 (omega arith) (pending_kept x k))
       (λ t. counted x (x.discards + 1) (below k.receives.discards_in (eqb-false (x.discards + 1) 64 t)) k)
     where
@@ -137,7 +132,7 @@ module _ (e : End) (store : List ℕ) (f : Fields) (fit : Fitting e) (its : stor
             record {
               owed_in = omega (arith, r.owed_in, a.owed);
               gathered_in = omega (arith, z);
-              none_stalled = ap (λ (n : ℕ). not f.stalled || eqb n 0) z ∙ or_right (not f.stalled);
+              none_stalled = ap (λ (n : ℕ). not f.stalled || eqb n 0) z ∙ or_right (not f.stalled) true refl;
               untold_in = omega (arith, r.untold_in, a.untold);
               discards_in = omega (arith, r.discards_in, a.discards);
             };
@@ -158,7 +153,7 @@ module _ (e : End) (store : List ℕ) (f : Fields) (fit : Fitting e) (its : stor
             record {
               owed_in = h;
               gathered_in = omega arith;
-              none_stalled = or_right (not f.stalled);
+              none_stalled = or_right (not f.stalled) true refl;
               untold_in = omega (arith, r.untold_in, a.untold);
               discards_in = omega (arith, r.discards_in, a.discards);
             };
@@ -201,11 +196,11 @@ module _ (e : End) (store : List ℕ) (f : Fields) (fit : Fitting e) (its : stor
       record {
         owed_in = h;
         gathered_in = omega arith;
-        none_stalled = or_right (not f.stalled);
+        none_stalled = or_right (not f.stalled) true refl;
         untold_in = omega (arith, r.untold_in, a.untold);
         discards_in = omega (arith, r.discards_in, a.discards);
       } in
-      cond_either (λ (y : End). Kept e (finished y) store) f.nack (sent_anew true x) x
+      cond_both f.nack (sent_anew true x) x (λ (y : End). Kept e (finished y) store)
       (λ t.
       record {
         sends = anew_sends x store a.oldest s;
@@ -285,9 +280,9 @@ module _ (e : End) (store hold flit : List ℕ) (fit : Fitting e) (its : store_i
   unfolding receive answer_to
   received_kept = go (receive_verdict e store (length hold) (length flit))
     where
-      go : (v : Verdict) → Kept e (end_after (answer_by v e hold flit) e store (fields_of flit)) store
-      go (Refused r) = after_kept e store (fields_of flit) fit its ok (answer.Refused r) (record {}) (record {})
-      go Admitted =
+      go : (v : Result (Unit {0}) Refusal) → Kept e (end_after (answer_by v e hold flit) e store (fields_of flit)) store
+      go (Err r) = after_kept e store (fields_of flit) fit its ok (answer.Refused r) (record {}) (record {})
+      go (Ok u) =
           let b = right (checked e hold flit) in
           after_kept e store (fields_of flit) fit its ok (mode_answer e.mode e (fields_of flit) b) (found e.mode e (fields_of flit) b)
           (grounds e.mode e (fields_of flit) b (receiving e store ok) (fields_fit flit).run)

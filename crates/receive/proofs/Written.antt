@@ -7,6 +7,7 @@ use Prim.Native.Nat.{ℕ, ◌%◌, ◌^◌, ◌≤◌}
 use native.Mathlib.Omega.{arith}
 use lib.ListN.{length, take, length-append}
 use lib.Seq.{length-take-le}
+use Rattle.std.specs.Prelude.{Result, Ok, Err}
 use Rattle.flit_number.specs.declared.FlitCount.{FlitCount}
 use Rattle.flit_read.specs.Bytes.{bytes}
 use Rattle.flit_read.specs.Fields.{content}
@@ -14,9 +15,7 @@ use Rattle.flit_write.specs.Flits.{bare_control}
 use Rattle.flit_read.proofs.Laws.{length_bytes}
 use Rattle.end_state.specs.Ring.{flit_at, put_at}
 use Rattle.end_state.specs.declared.End.{End}
-use Rattle.end_state.specs.declared.Verdict.{Verdict}
-use Rattle.end_state.specs.declared.Verdict.TheVariants.{Refused, Admitted}
-use Rattle.end_state.proofs.Facts.{sound_is}
+use Rattle.end_state.specs.declared.Refusal.{Refusal}
 use Rattle.end_state.proofs.Places.{put_length, flit_put_same, flit_put_other}
 use Rattle.receive_answer.specs.declared.Answer.{Answer}
 use Rattle.receive_answer.specs.declared.Answer.TheVariants as answer
@@ -26,31 +25,15 @@ use Rattle.receive.proofs.Unchanged.{refused_changes_nothing}
 
 -- the answers that write hold
 abbrev pub writes : Answer → Bool
-writes (answer.Refused r) = false
 writes answer.Held = true
 writes (answer.Delivered n) = true
-writes answer.Duplicate = false
-writes answer.Idle = false
-writes answer.Replayed = false
-writes answer.Ahead = false
-writes answer.Skipped = false
-writes answer.Damaged = false
-writes answer.Discarded = false
-writes (answer.Down cause) = false
+writes _ = false
 
 quiet_keeps : (a : Answer) (e : End) (hold flit : List ℕ) → writes a ≡ false → hold_after a e hold flit ≡ hold
 unfolding hold_after
-quiet_keeps (answer.Refused r) e hold flit h = refl
-quiet_keeps answer.Held e hold flit h = let z : ◌≡◌ {A = ℕ} 0 1 = cc in absurd (omega arith)
-quiet_keeps (answer.Delivered n) e hold flit h = let z : ◌≡◌ {A = ℕ} 0 1 = cc in absurd (omega arith)
-quiet_keeps answer.Duplicate e hold flit h = refl
-quiet_keeps answer.Idle e hold flit h = refl
-quiet_keeps answer.Replayed e hold flit h = refl
-quiet_keeps answer.Ahead e hold flit h = refl
-quiet_keeps answer.Skipped e hold flit h = refl
-quiet_keeps answer.Damaged e hold flit h = refl
-quiet_keeps answer.Discarded e hold flit h = refl
-quiet_keeps (answer.Down cause) e hold flit h = refl
+quiet_keeps answer.Held e hold flit h = cc
+quiet_keeps (answer.Delivered n) e hold flit h = cc
+quiet_keeps _ e hold flit h = refl
 
 pub only_held_and_delivered_write : (e : End) (store hold flit : List ℕ) → writes (answer_to e store hold flit) ≡ false
     → receive_hold e store hold flit ≡ hold
@@ -82,17 +65,9 @@ module _ (e : End) (hold flit : List ℕ) (fits : length hold ≡ 576) (few : e.
 
   after_beside : (a : Answer) → Beside hold (hold_after a e hold flit) e.gathered.0
   unfolding hold_after
-  after_beside (answer.Refused r) = same_beside hold e.gathered.0
   after_beside answer.Held = put_beside flit whole
   after_beside (answer.Delivered n) = put_beside (bare_control flit) (bare_length flit whole)
-  after_beside answer.Duplicate = same_beside hold e.gathered.0
-  after_beside answer.Idle = same_beside hold e.gathered.0
-  after_beside answer.Replayed = same_beside hold e.gathered.0
-  after_beside answer.Ahead = same_beside hold e.gathered.0
-  after_beside answer.Skipped = same_beside hold e.gathered.0
-  after_beside answer.Damaged = same_beside hold e.gathered.0
-  after_beside answer.Discarded = same_beside hold e.gathered.0
-  after_beside (answer.Down cause) = same_beside hold e.gathered.0
+  after_beside _ = same_beside hold e.gathered.0
 
 module _ (e : End) (store hold flit : List ℕ) where
   -- whatever receive answers
@@ -100,29 +75,26 @@ module _ (e : End) (store hold flit : List ℕ) where
   unfolding receive_hold
   written_beside = go (receive_verdict e store (length hold) (length flit)) refl
     where
-      go : (v : Verdict) → receive_verdict e store (length hold) (length flit) ≡ v → Beside hold (receive_hold e store hold flit) e.gathered.0
-      go (Refused r) t = rw (refused_changes_nothing e store hold flit r t).1 (same_beside hold e.gathered.0)
-      go Admitted t =
+      go : (v : Result (Unit {0}) Refusal) → receive_verdict e store (length hold) (length flit) ≡ v → Beside hold (receive_hold e store hold flit) e.gathered.0
+      go (Err r) t = rw (refused_changes_nothing e store hold flit r t).1 (same_beside hold e.gathered.0)
+      go (Ok u) t =
           let m = admission e store (length hold) (length flit) t in
-          let c = (sound_is e store m.is_sound).counts in
-          after_beside e hold flit m.hold_fits (omega (arith, c.gathered, c.owed)) m.flit_fits (answer_to e store hold flit)
+          after_beside e hold flit m.hold_fits (omega (arith, m.counts.gathered, m.counts.owed)) m.flit_fits (answer_to e store hold flit)
 
   -- and at that place stands the held flit, or the delivered unit's control flit
-  pub held_written : receive_verdict e store (length hold) (length flit) ≡ Admitted → answer_to e store hold flit ≡ answer.Held
+  pub held_written : receive_verdict e store (length hold) (length flit) ≡ Ok tt → answer_to e store hold flit ≡ answer.Held
       → flit_at (receive_hold e store hold flit) e.gathered.0 ≡ flit
   unfolding receive_hold hold_after
   held_written t h =
       let m = admission e store (length hold) (length flit) t in
-      let c = (sound_is e store m.is_sound).counts in
-      rw h (flit_put_same hold flit e.gathered.0 (omega (arith, m.hold_fits, c.gathered, c.owed)) m.flit_fits)
+      rw h (flit_put_same hold flit e.gathered.0 (omega (arith, m.hold_fits, m.counts.gathered, m.counts.owed)) m.flit_fits)
 
-  pub delivered_written : (n : FlitCount) → receive_verdict e store (length hold) (length flit) ≡ Admitted
+  pub delivered_written : (n : FlitCount) → receive_verdict e store (length hold) (length flit) ≡ Ok tt
       → answer_to e store hold flit ≡ answer.Delivered n
       → flit_at (receive_hold e store hold flit) e.gathered.0 ≡ bare_control flit
   unfolding receive_hold hold_after
   delivered_written n t h =
       let m = admission e store (length hold) (length flit) t in
-      let c = (sound_is e store m.is_sound).counts in
       rw h
-      (flit_put_same hold (bare_control flit) e.gathered.0 (omega (arith, m.hold_fits, c.gathered, c.owed))
+      (flit_put_same hold (bare_control flit) e.gathered.0 (omega (arith, m.hold_fits, m.counts.gathered, m.counts.owed))
       (bare_length flit m.flit_fits))

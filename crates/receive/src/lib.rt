@@ -3,107 +3,75 @@
 #![tactic(auto)]
 
 ghost use Rattle.std.specs.Prelude.{◌≡◌, ◌≤◌, length};
-ghost use Rattle.crc.specs.Register.{table};
 ghost use Rattle.end_state.specs.Ring.{put_at as put_at_of};
-ghost use Rattle.receive.specs.Receive.{receive_verdict, receive as receive_of, receive_hold, hold_after};
+ghost use Rattle.receive.specs.Receive.{receive_verdict, receive as receive_of, receive_hold, hold_after as hold_after_of};
 
-use end_state::{End, Refusal, Verdict};
+use end_state::{Answered, End, Refusal};
 use receive_answer::Answer;
 
-// The answer, and the end after it.
-#[derive(Clone, Copy)]
-pub struct Received {
-    pub answer: Answer,
-    pub end: End,
-}
-
 // Takes one flit. Only a held flit and a delivery write hold. A refusal changes neither the state nor hold.
-pub fn receive(e: End, store: &[u8], hold: &mut [u8], flit: &[u8]) -> Received
+#[tactic(auto, using(crate::proofs::Admission::admission))]
+pub fn receive(e: End, store: &[u8], hold: &mut [u8], flit: &[u8]) -> Answered<Answer>
     ensures value { result ≡ receive_of e store.now hold.old flit.now }
     ensures hold_after { hold.new ≡ receive_hold e store.now hold.old flit.now }
 {
-    let t = crc::laid();
-    receive_with(&t, e, store, hold, flit)
-}
-
-// The same for a caller that has laid the check's table down.
-pub fn receive_with(t: &[u64; 256], e: End, store: &[u8], hold: &mut [u8], flit: &[u8]) -> Received
-    requires { t.now ≡ table }
-    ensures value { result ≡ receive_of e store.now hold.old flit.now }
-    ensures hold_after { hold.new ≡ receive_hold e store.now hold.old flit.now }
-{
-    let hold_bytes = hold.len();
-    match verdict(e, store, hold_bytes, flit.len()) {
-        Verdict::Refused(r) => Received {
-            answer: Answer::Refused(r),
+    match verdict(e, store, hold.len(), flit.len()) {
+        Err(refusal) => Answered {
+            answer: Answer::Refused(refusal),
             end: e,
         },
-        Verdict::Admitted => {
+        Ok(()) => {
             let fields = flit_read::read::fields(flit);
-            let answer = receive_answer::answer_flit(t, e, &hold[..], flit, fields);
+            let answer = receive_answer::answer_flit(e, hold, flit, fields);
             let end = receive_state::end_after(answer, e, store, fields);
             write_hold(answer, e, hold, flit);
-            Received {
-                answer: answer,
-                end: end,
-            }
+            Answered { answer, end }
         }
     }
 }
 
 // The refusals of receive, in the table's order.
-fn verdict(e: End, store: &[u8], hold: usize, flit: usize) -> Verdict
+#[tactic(auto, unfolding(crate::specs::Receive::receive_verdict, end_judge::specs::Judge::judged))]
+fn verdict(e: End, store: &[u8], hold: usize, flit: usize) -> Result<(), Refusal>
     ensures { result ≡ receive_verdict e store.now hold flit }
 {
-    let its_store = end_judge::is_its_store(e, store.len());
-    if !(its_store & (hold == End::HOLD)) {
-        return Verdict::Refused(Refusal::Store);
+    if hold != End::HOLD {
+        return Err(Refusal::Store);
     }
-    let judged = end_judge::judge(e, store);
-    if !judged.sound {
-        return Verdict::Refused(Refusal::State);
-    }
+    end_judge::judge(e, store)?;
     if flit != End::FLIT {
-        return Verdict::Refused(Refusal::Shape);
+        return Err(Refusal::Shape);
     }
-    let mode = e.mode;
-    if end_state::is_down(mode) {
-        return Verdict::Refused(Refusal::Down);
+    if e.mode.is_down() {
+        return Err(Refusal::Down);
     }
-    Verdict::Admitted
+    Ok(())
 }
 
 // Only a held flit and a delivery write hold.
+#[tactic(auto, unfolding(crate::specs::Receive::hold_after))]
 fn write_hold(answer: Answer, e: End, hold: &mut [u8], flit: &[u8])
     requires { (length hold.old ≡ 576) × (length flit.now ≡ 64) × (e.gathered.0 ≤ 8) }
-    ensures { hold.new ≡ hold_after answer e hold.old flit.now }
+    ensures { hold.new ≡ hold_after_of answer e hold.old flit.now }
 {
-    let data = e.gathered.0;
     match answer {
-        Answer::Held => put_at(hold, data, flit_read::copy::taken(flit)),
+        Answer::Held => put_at(hold, e.gathered.0, flit_read::copy::taken(flit)),
         Answer::Delivered(_) => put_at(
             hold,
-            data,
+            e.gathered.0,
             flit_write::bare_control(flit_read::copy::taken(flit)),
         ),
-        Answer::Refused(_) => {}
-        Answer::Duplicate => {}
-        Answer::Idle => {}
-        Answer::Replayed => {}
-        Answer::Ahead => {}
-        Answer::Skipped => {}
-        Answer::Damaged => {}
-        Answer::Discarded => {}
-        Answer::Down(_) => {}
+        _ => {}
     }
 }
 
 // A flit into the part of hold that starts at 64 times the number already held.
+#[tactic(auto, using(end_state::proofs::Parts::put_is))]
 fn put_at(hold: &mut [u8], place: usize, flit: [u8; 64])
     requires { (length hold.old ≡ 576) × (place ≤ 8) }
     ensures { hold.new ≡ put_at_of hold.old place flit }
 {
-    let from = place * 64;
-    let to = from + 64;
+    let from = place * End::FLIT;
+    let to = from + End::FLIT;
     flit_read::copy::put(&mut hold[from..to], flit);
 }

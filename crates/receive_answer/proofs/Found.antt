@@ -11,9 +11,10 @@ use Rattle.end_state.specs.State.{is_run}
 use Rattle.end_state.specs.declared.End.{End}
 use Rattle.end_state.specs.declared.Mode.{Mode}
 use Rattle.end_state.specs.declared.Mode.TheVariants.{Run, Wait, Down}
-use Rattle.end_state.proofs.Tests.{cond_true, cond_either}
+use Rattle.std.proofs.lemmas.Bool.{cond-true, cond_both}
 use Rattle.receive_test.specs.Arrivals.{holds, damaged, skips, newly_covered, past_sent, behind}
 use Rattle.receive_answer.specs.Answers.{half, replay_answer, plain_answer, run_answer, wait_answer, mode_answer}
+use Rattle.receive_answer.specs.declared.Cause.{Cause}
 use Rattle.receive_answer.specs.declared.Answer.{Answer}
 use Rattle.receive_answer.specs.declared.Answer.TheVariants as answer
 
@@ -27,32 +28,27 @@ pub record Delivers (e : End) (n : ℕ) : Type 0 where
   pub room : e.untold.0 + (e.gathered.0 + 1) ≤ 1024
 
 abbrev pub Fits : Answer → End → Fields → Type 0
-Fits (answer.Refused r) e f = Nothing
-Fits answer.Held e f = Nothing
 Fits (answer.Delivered n) e f = Delivers e f.acks.0
 Fits answer.Duplicate e f = Counts e f.acks.0
 Fits answer.Idle e f = Counts e f.acks.0
 Fits answer.Replayed e f = Counts e (newly_covered e f.last.0)
 Fits answer.Ahead e f = Counts e (newly_covered e f.last.0)
-Fits answer.Skipped e f = Nothing
-Fits answer.Damaged e f = Nothing
-Fits answer.Discarded e f = Nothing
-Fits (answer.Down cause) e f = Nothing
+Fits _ e f = Nothing
 
 -- what holds of each answer to a replay flit, where its tests led there, holds of the answer; and to another flit
-pub replay_by : (P : Answer → Type 0) (e : End) (f : Fields) → ((n : ℕ) → P (answer.Down n))
+pub replay_by : (P : Answer → Type 0) (e : End) (f : Fields) → ((n : Cause) → P (answer.Down n))
     → (ltb 8 f.previous.0 ≡ false → past_sent e (newly_covered e f.last.0) ≡ false → P answer.Replayed × P answer.Ahead)
     → P (replay_answer e f)
 unfolding replay_answer
 replay_by P e f down taken =
-    cond_either P f.short _ _ (λ t. down _)
+    cond_both f.short _ _ P (λ t. down _)
     (λ t.
-    cond_either P (ltb 8 f.previous.0) _ _ (λ u. down _)
+    cond_both (ltb 8 f.previous.0) _ _ P (λ u. down _)
     (λ u.
-    cond_either P (past_sent e (newly_covered e f.last.0)) _ _ (λ v. down _)
-    (λ v. cond_either P (ltb (behind e f.start.0) half) _ _ (λ w. (taken u v).0) (λ w. (taken u v).1))))
+    cond_both (past_sent e (newly_covered e f.last.0)) _ _ P (λ v. down _)
+    (λ v. cond_both (ltb (behind e f.start.0) half) _ _ P (λ w. (taken u v).0) (λ w. (taken u v).1))))
 
-pub plain_by : (P : Answer → Type 0) (e : End) (f : Fields) → ((n : ℕ) → P (answer.Down n))
+pub plain_by : (P : Answer → Type 0) (e : End) (f : Fields) → ((n : Cause) → P (answer.Down n))
     → (past_sent e f.acks.0 ≡ false → eqb f.run.0 idle_kind ≡ true → P answer.Idle)
     → (past_sent e f.acks.0 ≡ false → eqb f.run.0 idle_kind ≡ false → P answer.Duplicate)
     → (past_sent e f.acks.0 ≡ false
@@ -62,14 +58,14 @@ pub plain_by : (P : Answer → Type 0) (e : End) (f : Fields) → ((n : ℕ) →
     → P (plain_answer e f)
 unfolding plain_answer
 plain_by P e f down idles again delivers =
-    cond_either P f.short _ _ (λ t. down _)
+    cond_both f.short _ _ P (λ t. down _)
     (λ t.
-    cond_either P (past_sent e f.acks.0) _ _ (λ u. down _)
+    cond_both (past_sent e f.acks.0) _ _ P (λ u. down _)
     (λ u.
-    cond_either P (eqb f.run.0 idle_kind) _ _ (λ v. idles u v)
+    cond_both (eqb f.run.0 idle_kind) _ _ P (λ v. idles u v)
     (λ v.
-    cond_either P (not (eqb e.position.0 e.wanted.0)) _ _ (λ w. again u v)
-    (λ w. cond_either P (ltb 1024 (e.untold.0 + (e.gathered.0 + 1))) _ _ (λ x. down _) (λ x. delivers u v x)))))
+    cond_both (not (eqb e.position.0 e.wanted.0)) _ _ P (λ w. again u v)
+    (λ w. cond_both (ltb 1024 (e.untold.0 + (e.gathered.0 + 1))) _ _ P (λ x. down _) (λ x. delivers u v x)))))
 
 replay_fits : (e : End) (f : Fields) → Fits (replay_answer e f) e f
 replay_fits e f = replay_by (λ a. Fits a e f) e f (λ n. record {}) (λ u v. (record { within = v }, record { within = v }))
@@ -84,20 +80,20 @@ pub found : (m : Mode) (e : End) (f : Fields) (b : Bool) → Fits (mode_answer m
 unfolding run_answer wait_answer
 found Run e f b =
     let P : Answer → Type 0 = λ a. Fits a e f in
-    cond_either P (holds e) _ _ (λ t. record {})
+    cond_both (holds e) _ _ P (λ t. record {})
     (λ t.
-    cond_either P (damaged e f b) _ _ (λ u. record {})
+    cond_both (damaged e f b) _ _ P (λ u. record {})
     (λ u.
-    cond_either P (skips f) _ _ (λ v. record {})
-    (λ v. cond_either P (eqb f.run.0 replay_kind) _ _ (λ w. replay_fits e f) (λ w. plain_fits e f))))
+    cond_both (skips f) _ _ P (λ v. record {})
+    (λ v. cond_both (eqb f.run.0 replay_kind) _ _ P (λ w. replay_fits e f) (λ w. plain_fits e f))))
 found Wait e f b =
     let P : Answer → Type 0 = λ a. Fits a e f in
-    cond_either P (b && eqb f.run.0 replay_kind) _ _ (λ t. replay_fits e f) (λ t. record {})
+    cond_both (b && eqb f.run.0 replay_kind) _ _ P (λ t. replay_fits e f) (λ t. record {})
 found Down e f b = record {}
 
 -- where the flit is held, nothing else is looked at
 pub held_answer : (m : Mode) (e : End) (f : Fields) (b : Bool) → (is_run m && holds e) ≡ true → mode_answer m e f b ≡ answer.Held
 unfolding run_answer
-held_answer Run e f b h = cond_true (holds e) answer.Held _ h
+held_answer Run e f b h = cond-true (holds e) answer.Held _ h
 held_answer Wait e f b h = let z : false ≡ true = h in cc
 held_answer Down e f b h = let z : false ≡ true = h in cc

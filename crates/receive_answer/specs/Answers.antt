@@ -8,6 +8,8 @@ use Rattle.end_state.specs.declared.End.{End}
 use Rattle.end_state.specs.declared.Mode.{Mode}
 use Rattle.end_state.specs.declared.Mode.TheVariants.{Run, Wait, Down}
 use Rattle.end_state.specs.declared.Refusal.TheVariants as refusal
+use Rattle.receive_answer.specs.declared.Cause.{Cause}
+use Rattle.receive_answer.specs.declared.Cause.TheVariants as cause
 use Rattle.receive_answer.specs.declared.Answer.{Answer}
 use Rattle.receive_answer.specs.declared.Answer.TheVariants as answer
 use Rattle.receive_answer.specs.declared.Told.{Told}
@@ -15,26 +17,32 @@ use Rattle.receive_test.specs.Arrivals.{holds, behind, damaged, skips, newly_cov
 
 -- ---- 3. what brings the link down, in the order of the text; 5. and 6. the answer otherwise
 
+abbrev pub cause_number : Cause → ℕ
+cause_number cause.PastSent = 1
+cause_number cause.LongRun = 2
+cause_number cause.ShortNext = 3
+cause_number cause.Untold = 4
+
 abbrev pub half : ℕ
 half = 32768
 
 -- a replay flit
 unfoldable pub replay_answer : End → Fields → Answer
 replay_answer e f =
-    cond f.short (answer.Down 3)
-    (cond (ltb 8 f.previous.0) (answer.Down 2)
-    (cond (past_sent e (newly_covered e f.last.0)) (answer.Down 1)
+    cond f.short (answer.Down cause.ShortNext)
+    (cond (ltb 8 f.previous.0) (answer.Down cause.LongRun)
+    (cond (past_sent e (newly_covered e f.last.0)) (answer.Down cause.PastSent)
     (cond (ltb (behind e f.start.0) half) answer.Replayed
     answer.Ahead)))
 
 -- an idle flit, or a control flit with its data
 unfoldable pub plain_answer : End → Fields → Answer
 plain_answer e f =
-    cond f.short (answer.Down 3)
-    (cond (past_sent e f.acks.0) (answer.Down 1)
+    cond f.short (answer.Down cause.ShortNext)
+    (cond (past_sent e f.acks.0) (answer.Down cause.PastSent)
     (cond (eqb f.run.0 idle_kind) answer.Idle
     (cond (not (eqb e.position.0 e.wanted.0)) answer.Duplicate
-    (cond (ltb 1024 (e.untold.0 + (e.gathered.0 + 1))) (answer.Down 4)
+    (cond (ltb 1024 (e.untold.0 + (e.gathered.0 + 1))) (answer.Down cause.Untold)
     (answer.Delivered e.gathered)))))
 
 unfoldable pub run_answer : End → Fields → Bool → Answer
@@ -60,13 +68,6 @@ tells_none = record { refusal = 0; delivered = 0; cause = 0 }
 
 abbrev pub tells : Answer → Told
 tells (answer.Refused r) = record { refusal = refusal_number r; delivered = 0; cause = 0 }
-tells answer.Held = tells_none
 tells (answer.Delivered n) = record { refusal = 0; delivered = n.0; cause = 0 }
-tells answer.Duplicate = tells_none
-tells answer.Idle = tells_none
-tells answer.Replayed = tells_none
-tells answer.Ahead = tells_none
-tells answer.Skipped = tells_none
-tells answer.Damaged = tells_none
-tells answer.Discarded = tells_none
-tells (answer.Down cause) = record { refusal = 0; delivered = 0; cause = cause }
+tells (answer.Down why) = record { refusal = 0; delivered = 0; cause = cause_number why }
+tells _ = tells_none

@@ -7,7 +7,7 @@ use native.Mathlib.Omega.{arith}
 use native.Mathlib.Numerals.{add-one}
 use Rattle.end_state.specs.Ring.{walk_over}
 use Rattle.end_state.specs.declared.walk.Walk.{Walk}
-use Rattle.end_state.proofs.Tests.{cond_either}
+use Rattle.std.proofs.lemmas.Bool.{cond_both}
 use Rattle.receive_free.specs.Acknowledge.{last_border}
 
 module _ (places first : ℕ) (w : Walk) (store : List ℕ) where
@@ -23,12 +23,11 @@ module _ (places first : ℕ) (w : Walk) (store : List ℕ) where
   border_within zero = omega arith
   border_within (suc n) =
       let h = border_within n in
-      cond_either (λ (m : ℕ). m ≤ suc n) (walk_over places first w store (suc n)).border (suc n) (last_border places first w store n)
+      cond_both (walk_over places first w store (suc n)).border (suc n) (last_border places first w store n) (λ (m : ℕ). m ≤ suc n)
       (λ t. omega arith) (λ t. omega arith)
 
   pub border_found : w.border ≡ true → (n : ℕ) → (walk_over places first w store (last_border places first w store n)).border ≡ true
   unfolding last_border walk_over
   border_found b zero = b
   border_found b (suc n) =
-      cond_either (λ (m : ℕ). (walk_over places first w store m).border ≡ true) (walk_over places first w store (suc n)).border (suc n)
-      (last_border places first w store n) (λ t. t) (λ t. border_found b n)
+      cond_both (walk_over places first w store (suc n)).border (suc n) (last_border places first w store n) (λ (m : ℕ). (walk_over places first w store m).border ≡ true) (λ t. t) (λ t. border_found b n)

@@ -14,7 +14,7 @@ use Rattle.end_state.specs.Update.{with_acknowledged}
 use Rattle.end_state.specs.Refusals.{cursor_at, store_is, sound}
 use Rattle.end_state.specs.declared.End.{End}
 use Rattle.end_state.proofs.Facts.{stored_is, sound_is}
-use Rattle.end_state.proofs.Tests.{cond_either}
+use Rattle.std.proofs.lemmas.Bool.{cond_both}
 use Rattle.receive_test.specs.Arrivals.{past_sent, newly_covered}
 use Rattle.receive_answer.specs.Answers.{mode_answer}
 use Rattle.receive_answer.specs.declared.Answer.{Answer}
@@ -55,11 +55,11 @@ discards_acknowledged : (e : End) (store : List ℕ) (n : ℕ) → (acknowledged
 unfolding acknowledged freed
 discards_acknowledged e store n =
     let z = freed (with_acknowledged (after width e.acknowledged.0 n) e) store (freed_by e store n) in
-    cond_either (λ (z : End). z.discards ≡ e.discards) (ltb (cursor_at e) (freed_by e store n)) (sent_anew true z) z (λ t. refl) (λ t. refl)
+    cond_both (ltb (cursor_at e) (freed_by e store n)) (sent_anew true z) z (λ (z : End). z.discards ≡ e.discards) (λ t. refl) (λ t. refl)
 
 pub discards_replay_taken : (e : End) (store : List ℕ) (f : Fields) → (replay_taken e store f).discards ≡ e.discards
 unfolding replay_taken
 discards_replay_taken e store f =
     let h = discards_acknowledged e store (newly_covered e f.last.0) in
     let z = informed f.information (acknowledged e store (newly_covered e f.last.0)) in
-    cond_either (λ (z : End). z.discards ≡ e.discards) f.nack (sent_anew true z) z (λ t. h) (λ t. h)
+    cond_both f.nack (sent_anew true z) z (λ (z : End). z.discards ≡ e.discards) (λ t. h) (λ t. h)

@@ -5,6 +5,8 @@ use Rattle.end_state.specs.Update.{with_gathered, with_discards, with_pending, w
 use Rattle.end_state.specs.declared.End.{End}
 use Rattle.end_state.specs.declared.Mode.{Mode}
 use Rattle.end_state.specs.declared.Mode.TheVariants.{Run, Wait, Down}
+use Rattle.receive_answer.specs.Answers.{cause_number}
+use Rattle.receive_answer.specs.declared.Cause.{Cause}
 use Rattle.receive_answer.specs.declared.Answer.{Answer}
 use Rattle.receive_answer.specs.declared.Answer.TheVariants as answer
 use Rattle.receive_take.specs.Taken.{idled, closed, delivered, replay_taken}
@@ -17,8 +19,8 @@ waiting e = with_mode Wait (with_gathered 0 (with_pending true (with_discards 0 
 unfoldable pub discarded : End → End
 discarded e = cond (eqb (e.discards + 1) 64) (with_discards 0 (with_pending true e)) (with_discards (e.discards + 1) e)
 
-abbrev pub down : ℕ → End → End
-down cause e = with_mode Down (with_cause cause e)
+abbrev pub down : Cause → End → End
+down cause e = with_mode Down (with_cause (cause_number cause) e)
 
 abbrev pub ahead_in : Mode → End → End
 ahead_in Run e = waiting e

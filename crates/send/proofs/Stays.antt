@@ -14,10 +14,10 @@ use Rattle.end_state.specs.Update.{with_untold, with_pending}
 use Rattle.end_state.specs.Ring.{walked}
 use Rattle.end_state.specs.Refusals.{cursor_at, sent_at, store_is, counts_sound, sound, previous_run}
 use Rattle.end_state.specs.declared.End.{End}
-use Rattle.end_state.specs.declared.Verdict.{Verdict}
-use Rattle.end_state.specs.declared.Verdict.TheVariants.{Refused, Admitted}
+use Rattle.end_state.specs.declared.Refusal.{Refusal}
+use Rattle.std.specs.Prelude.{Result, Ok, Err}
 use Rattle.end_state.specs.declared.walk.Walk.{Walk}
-use Rattle.end_state.proofs.Tests.{cond_either}
+use Rattle.std.proofs.lemmas.Bool.{cond_both}
 use Rattle.end_state.proofs.Facts.{stored_is, sound_is}
 use Rattle.end_state.proofs.Holds.{sound_holds, counts_of, numbers_hold, units_hold, untold_sound, pending_sound}
 use Rattle.end_state.proofs.Walks.{next_border}
@@ -33,17 +33,17 @@ pub moved_either : (P : End → Type 0) (e : End) (run : ℕ) → P (with_untold
     → P (moved e run)
 unfolding moved
 moved_either P e run f g h =
-    cond_either P e.pending _ _ (λ t. f)
-    (λ t. cond_either P (ltb (cursor_at e) e.held.0) _ _ (λ v. h (ltb-true (cursor_at e) e.held.0 v)) (λ v. g))
+    cond_both e.pending _ _ P (λ t. f)
+    (λ t. cond_both (ltb (cursor_at e) e.held.0) _ _ P (λ v. h (ltb-true (cursor_at e) e.held.0 v)) (λ v. g))
 
-pub send_either : (P : End → Type 0) (e : End) (store : List ℕ) (n : ℕ) → P e → (send_verdict e store n ≡ Admitted → P (moved e (previous_run e store)))
+pub send_either : (P : End → Type 0) (e : End) (store : List ℕ) (n : ℕ) → P e → (send_verdict e store n ≡ Ok tt → P (moved e (previous_run e store)))
     → P (send e store n).end
 unfolding send
 send_either P e store n f g = go (send_verdict e store n) refl
   where
-    go : (v : Verdict) → send_verdict e store n ≡ v → P (sent_by v e (previous_run e store)).end
-    go (Refused r) h = f
-    go Admitted h = g h
+    go : (v : Result (Unit {0}) Refusal) → send_verdict e store n ≡ v → P (sent_by v e (previous_run e store)).end
+    go (Err r) h = f
+    go (Ok u) h = g h
 
 -- ---- past a unit
 
@@ -69,7 +69,7 @@ module _ (e : End) (store : List ℕ) (ok : sound e store ≡ true) (most : e.ca
   sent_moved : Further e (cursor_at e + (run + 1)) (past_unit e run).sent.0
   sent_moved =
       let s = sound_is e store ok in
-      cond_either (Further e (cursor_at e + (run + 1))) (ltb (sent_at e) (cursor_at e + (run + 1))) (after width e.cursor.0 (run + 1)) e.sent.0
+      cond_both (ltb (sent_at e) (cursor_at e + (run + 1))) (after width e.cursor.0 (run + 1)) e.sent.0 (Further e (cursor_at e + (run + 1)))
       (λ t.
       let l = ltb-true (sent_at e) (cursor_at e + (run + 1)) t in
       record { to_it = omega (arith, cursor_moved); grows = omega (arith, cursor_moved); held = omega (arith, cursor_moved, inside) })
@@ -104,7 +104,7 @@ stays_sound e store n ok =
     (untold_sound e store (fallen e.untold.0) (omega arith) ok)
     (λ w.
     untold_sound (past_unit e run) store (cond (ltb 0 run) (fallen (fallen e.untold.0)) (fallen e.untold.0))
-    (cond_either (λ (x : ℕ). x ≤ 1024) (ltb 0 run) (fallen (fallen e.untold.0)) (fallen e.untold.0) (λ t. omega arith) (λ t. omega arith))
+    (cond_both (ltb 0 run) (fallen (fallen e.untold.0)) (fallen e.untold.0) (λ (x : ℕ). x ≤ 1024) (λ t. omega arith) (λ t. omega arith))
     (past_sound e store ok (stored_is e (length store) (admitted e store n a).its_store).most w)))
 
 -- and the store stays its own

@@ -1,15 +1,13 @@
--- What soundness says where the burst is written: the ring is the store's, the run length before the cursor is at most 8, and the unit
--- at the cursor is held whole.
+-- What soundness says where the burst is written: the run length before the cursor is at most 8, and the unit at the cursor is held whole.
 use mathlib.Core.Bool.{true}
 use mathlib.Core.List.{List}
 use mathlib.Core.Path.{◌≡◌, subst}
-use Prim.Native.Nat.{ℕ, ◌+◌, ◌-◌, ◌*◌, ◌<◌, ◌≤◌}
+use Prim.Native.Nat.{ℕ, ◌+◌, ◌-◌, ◌<◌, ◌≤◌}
 use native.Mathlib.Omega.{arith}
-use lib.ListN.{length}
 use Rattle.end_state.specs.Ring.{walked}
-use Rattle.end_state.specs.Refusals.{cursor_at, store_is, sound, previous_run}
+use Rattle.end_state.specs.Refusals.{cursor_at, sound, previous_run}
 use Rattle.end_state.specs.declared.End.{End}
-use Rattle.end_state.proofs.Facts.{stored_is, sound_is}
+use Rattle.end_state.proofs.Facts.{sound_is}
 use Rattle.end_state.proofs.Walks.{fair, sound_before, whole}
 
 module _ (e : End) (store : List ℕ) (ok : sound e store ≡ true) where
@@ -26,23 +24,12 @@ module _ (e : End) (store : List ℕ) (ok : sound e store ≡ true) where
       let s = sound_is e store ok in
       whole e store s.counts.kept (cursor_at e) s.units.cursor e.held.0 h s.units.border
 
-pub record Ready (e : End) (store : List ℕ) (run : ℕ) : Type 0 where
-  pub size : length store ≡ e.capacity.0 * 64
-  pub most : e.capacity.0 ≤ 1024
-  pub first : e.first < e.capacity.0
+pub record Ready (e : End) (run : ℕ) : Type 0 where
   pub small : run ≤ 8
   pub inside : cursor_at e < e.held.0 → cursor_at e + run < e.capacity.0
 
-pub ready : (e : End) (store : List ℕ) (run : ℕ) → store_is e (length store) ≡ true → sound e store ≡ true → run ≡ previous_run e store
-    → Ready e store run
-ready e store run h ok r =
-    let k = stored_is e (length store) h in
+pub ready : (e : End) (store : List ℕ) (run : ℕ) → sound e store ≡ true → run ≡ previous_run e store → Ready e run
+ready e store run ok r =
     let s = sound_is e store ok in
     let m = run_small e store ok in
-    record {
-      size = k.whole;
-      most = k.most;
-      first = s.counts.first;
-      small = omega arith;
-      inside = λ w. let u = unit_whole e store ok w in omega (arith, s.counts.held);
-    }
+    record { small = omega arith; inside = λ w. let u = unit_whole e store ok w in omega (arith, s.counts.held) }

@@ -14,23 +14,24 @@ pub fn moved(e: End, run: FlitCount) -> End
     requires { run.0 ≤ 8 }
     ensures { result ≡ moved_of e run.0 }
 {
-    let mut next = e;
     if e.pending {
-        let none = FlitCount(0);
-        next.untold = none;
-        next.pending = false;
-        return next;
+        return End {
+            untold: FlitCount(0),
+            pending: false,
+            ..e
+        };
     }
     let cursor = flit_number::flits_between(e.oldest, e.cursor);
     if e.held.0 <= cursor.0 {
-        let left = fallen(e.untold);
-        next.untold = left;
-        return next;
+        return End {
+            untold: fallen(e.untold),
+            ..e
+        };
     }
-    let left = fallen_past(e.untold, run);
-    next = past_unit(e, run);
-    next.untold = left;
-    next
+    End {
+        untold: fallen_past(e.untold, run),
+        ..past_unit(e, run)
+    }
 }
 
 // The cursor moves past the unit, and sent with it where the cursor passes it.
@@ -42,36 +43,30 @@ fn past_unit(e: End, run: FlitCount) -> End
     let past = flit_number::number_after(e.cursor, FlitCount(flits));
     let cursor = flit_number::flits_between(e.oldest, e.cursor);
     let sent = flit_number::flits_between(e.oldest, e.sent);
-    let mut next = e;
-    next.cursor = past;
+    let next = End { cursor: past, ..e };
     if sent.0 < cursor.0 + flits {
-        next.sent = past;
+        End { sent: past, ..next }
+    } else {
+        next
     }
-    next
 }
+
+// The most that one flit tells.
+const MOST_TOLD: usize = 31;
 
 // The smaller of 31 and untold.
 pub fn carried(untold: FlitCount) -> FlitCount
     ensures result_value { result.0 ≡ carried_of untold.0 }
     ensures result_bound { result.0 ≤ 31 }
 {
-    if untold.0 <= 31 {
-        untold
-    } else {
-        FlitCount(31)
-    }
+    FlitCount(untold.0.min(MOST_TOLD))
 }
 
 // What untold falls to.
 pub fn fallen(untold: FlitCount) -> FlitCount
     ensures { result.0 ≡ fallen_of untold.0 }
 {
-    if untold.0 <= 31 {
-        FlitCount(0)
-    } else {
-        let left = untold.0 - 31;
-        FlitCount(left)
-    }
+    FlitCount(untold.0.saturating_sub(MOST_TOLD))
 }
 
 // What untold falls to with a unit: twice where an idle flit goes before it.

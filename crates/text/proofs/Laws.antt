@@ -1,17 +1,23 @@
 -- Laws of texts in a buffer, of decimal numbers and of forms: a text written after a text is the two joined, writing keeps the length,
 -- twenty digits are enough for any number under 2 ^ 64, and a form is written a byte or a number at a time.
-use mathlib.Core.Bool.{Bool, true, false, ◌&&◌, cond}
+use mathlib.Core.Bool.{Bool, true, false, cond}
 use mathlib.Core.List.{List, [], ◌∷◌, ◌++◌, append-nil, append_assoc}
 use mathlib.Core.Path.{◌≡◌, refl, ap, sym, subst, ◌∙◌}
 use Prim.Native.Nat.{ℕ, zero, suc, ◌+◌, ◌*◌, ◌/◌, ◌%◌, ◌^◌, ◌≤◌, ◌<◌}
-use native.Mathlib.Nat.{suc-add, add-suc, add-zero, div-lt_iff_lt-mul, pow-suc}
+use native.Mathlib.Nat.{suc-add, add-suc, add-zero}
 use native.Mathlib.Numerals.{add-one}
 use native.Mathlib.Omega.{arith}
 use lib.Dec.{ltb, eqb}
-use lib.ListN.{length, set, take, drop, get_or, length-append, length-take, length-set, drop_of_length-le}
-use lib.Seq.{sets, length-sets, sets-eq, take-suc, take_at, drop-cons}
-use borrow.Author.Tests.{lt-ltb, le-ltb, ltb-true, ltb-false}
-use Rattle.text.specs.Text.{digit, digits, decimal, hash, filled, written, Puts}
+use lib.ListN.{length, set, get_or, take, drop, length-append, length-set}
+use lib.Seq.{sets, length-sets, sets-eq, take_at, drop-cons}
+use borrow.Author.Tests.{lt-ltb, le-ltb, eq-eqb, ne_eqb}
+use borrow.Rule.Slice.PartMut.{put_mid}
+use Rattle.std.specs.Fmt.{decimal as std_decimal}
+use Rattle.std.proofs.lemmas.Bool.{cond-true, cond-false}
+use Rattle.std.proofs.lemmas.List.{drop-drop}
+use Rattle.std.proofs.lemmas.Fmt.{AppendsLastDigit, decimal_from_appends, length-decimal-le}
+use Rattle.text.specs.declared.Writer.{Writer}
+use Rattle.text.specs.Text.{digit, digits, decimal, hash, filled, written, Puts, Appends}
 
 -- ---- a buffer
 
@@ -37,15 +43,17 @@ pub written_one : (out : List ℕ) (at b : ℕ) → written out at (b ∷ []) �
 unfolding written
 written_one out at b = refl
 
--- one byte more of a text
-pub written_next : (out text : List ℕ) (at i : ℕ) → i < length text
-    → set (written out at (take i text)) (at + i) (get_or text i 0) ≡ written out at (take (suc i) text)
-written_next out text at i h =
-    let n : length (take i text) ≡ i = simp length-take (omega arith) in
-    sym (written_one (written out at (take i text)) (at + i) (get_or text i 0))
-    ∙ ap (λ (k : ℕ). written (written out at (take i text)) (at + k) (get_or text i 0 ∷ [])) (sym n)
-    ∙ written_more out at (take i text) (get_or text i 0 ∷ [])
-    ∙ ap (written out at) (sym (take-suc text i 0 h))
+-- a text that is copied to its place, which has k bytes
+pub written_copied : (out text : List ℕ) (at k : ℕ) → k ≡ length text → at + length text ≤ length out → put_mid at k out text ≡ written out at text
+unfolding written
+written_copied out text at k e h = rw e (ap (λ (l : List ℕ). take at out ++ (text ++ l)) (drop-drop (length text) at out) ∙ sym (append_assoc (take at out) text (drop (at + length text) out)) ∙ sym (sets-eq text out at h))
+
+-- at the start it stands before the rest
+pub written_start : (out text : List ℕ) → length text ≤ length out → written out 0 text ≡ text ++ drop (length text) out
+unfolding written
+written_start out text h =
+    let none : 0 + length text ≡ length text = omega arith in
+    sets-eq text out 0 (omega arith) ∙ ap (λ (k : ℕ). text ++ drop k out) none
 
 -- ---- a text put into a buffer
 
@@ -54,6 +62,12 @@ puts_none out at = record { place = sym (add-zero at); bytes = sym (written_none
 
 pub puts_byte : (out : List ℕ) (at b : ℕ) → Puts out at (b ∷ []) (at + 1) (set out at b)
 puts_byte out at b = record { place = refl; bytes = sym (written_one out at b); size = length-set out at b }
+
+pub puts_copied : {next : ℕ} (out text : List ℕ) (at k : ℕ) → k ≡ length text → next ≡ at + length text → next ≤ length out
+    → Puts out at text next (put_mid at k out text)
+puts_copied out text at k e n h =
+    let w = written_copied out text at k e (omega arith) in
+    record { place = n; bytes = w; size = ap length w ∙ length_written out at text }
 
 -- a text put after a text
 pub puts_more : {out middle after a b : List ℕ} {at next last : ℕ} → Puts out at a next middle → Puts middle next b last after
@@ -76,25 +90,29 @@ puts_start {out} {text} {after} {next} p h =
     let n : next ≡ length text = omega (arith, p.place) in
     rw (p.bytes, sets-eq text out 0 (omega arith)) (take_at text (drop (0 + length text) out) next (sym n))
 
+-- ---- a text put by a writer
+
+pub appends_none : (w : Writer) → Appends w [] w
+appends_none w = record { puts = puts_none w.out.now w.at; buffer = refl }
+
+pub appends_more : {before middle after : Writer} {a b : List ℕ} → Appends before a middle → Appends middle b after → Appends before (a ++ b) after
+appends_more p q = record { puts = puts_more p.puts q.puts; buffer = q.buffer ∙ p.buffer }
+
+pub appends_as : {before after : Writer} {text other : List ℕ} → text ≡ other → Appends before text after → Appends before other after
+appends_as e p = record { puts = puts_as e p.puts; buffer = p.buffer }
+
 -- ---- decimal numbers
 
-cond_true : (b : Bool) (x y : List ℕ) → b ≡ true → cond b x y ≡ x
-cond_true true x y h = refl
-cond_true false x y h = let z : false ≡ true = h in cc
-
-cond_false : (b : Bool) (x y : List ℕ) → b ≡ false → cond b x y ≡ y
-cond_false false x y h = refl
-cond_false true x y h = let z : true ≡ false = h in cc
-
-digits_small : (k n : ℕ) → n < 10 → digits (suc k) n ≡ digit n ∷ []
+digit_by_digit : AppendsLastDigit digits
 unfolding digits
-digits_small k n h = cond_true (ltb n 10) _ _ (lt-ltb n 10 h)
+digit_by_digit =
+    record { one = λ k n h. cond-true (ltb n 10) _ _ (lt-ltb n 10 h); more = λ k n h. cond-false (ltb n 10) _ _ (le-ltb n 10 h) }
 
-digits_large : (k n : ℕ) → 10 ≤ n → digits (suc k) n ≡ digits k (n / 10) ++ (digit (n % 10) ∷ [])
-unfolding digits
-digits_large k n h = cond_false (ltb n 10) _ _ (le-ltb n 10 h)
+-- as the library prints them
+pub decimal_is : (n : ℕ) → n < 2 ^ 64 → decimal n ≡ std_decimal n
+decimal_is n h = decimal_from_appends digits digit_by_digit 20 n h (length-decimal-le 20 n (omega arith) (omega arith) h)
 
-pub length_digits : (k n : ℕ) → length (digits k n) ≤ k
+length_digits : (k n : ℕ) → length (digits k n) ≤ k
 unfolding digits
 length_digits zero n = omega arith
 length_digits (suc k) n = shorter (ltb n 10) (length_digits k (n / 10))
@@ -104,49 +122,8 @@ length_digits (suc k) n = shorter (ltb n 10) (length_digits k (n / 10))
     shorter true h = omega arith
     shorter false h = simp length-append (omega arith)
 
--- a digit more is not needed
-large_enough : (k n : ℕ) → 10 ≤ n → digits (suc k) (n / 10) ≡ digits k (n / 10) → digits (suc (suc k)) n ≡ digits (suc k) n
-large_enough k n h same =
-    digits_large (suc k) n h
-    ∙ ap (λ (l : List ℕ). l ++ (digit (n % 10) ∷ [])) same
-    ∙ sym (digits_large k n h)
-
-small_enough : (k n : ℕ) → n < 10 → digits (suc (suc k)) n ≡ digits (suc k) n
-small_enough k n h = digits_small (suc k) n h ∙ sym (digits_small k n h)
-
-enough_by : (k n : ℕ) (b : Bool) → ltb n 10 ≡ b → (10 ≤ n → digits (suc k) (n / 10) ≡ digits k (n / 10))
-    → digits (suc (suc k)) n ≡ digits (suc k) n
-enough_by k n true e same = small_enough k n (ltb-true n 10 e)
-enough_by k n false e same = large_enough k n (ltb-false n 10 e) (same (ltb-false n 10 e))
-
-enough : (k n : ℕ) → n < 10 ^ suc k → digits (suc (suc k)) n ≡ digits (suc k) n
-enough zero n h = small_enough zero n h
-enough (suc k) n h = enough_by (suc k) n (ltb n 10) refl
-    (λ _. enough k (n / 10) ((div-lt_iff_lt-mul (omega arith)).1 (rw pow-suc at h)))
-
-pub decimal_small : (n : ℕ) → n < 10 → decimal n ≡ digit n ∷ []
-decimal_small n h = digits_small 19 n h
-
-pub decimal_large : (n : ℕ) → 10 ≤ n → n < 2 ^ 64 → decimal n ≡ decimal (n / 10) ++ (digit (n % 10) ∷ [])
-decimal_large n h b = digits_large 19 n h ∙ ap (λ (l : List ℕ). l ++ (digit (n % 10) ∷ [])) (sym (enough 18 (n / 10) (omega arith)))
-
-pub length_small : (n : ℕ) → n < 10 → length (decimal n) ≡ 1
-length_small n h = ap length (decimal_small n h)
-
-pub length_large : (n : ℕ) → 10 ≤ n → n < 2 ^ 64 → length (decimal n) ≡ length (decimal (n / 10)) + 1
-length_large n h b = ap length (decimal_large n h b) ∙ length-append (decimal (n / 10)) (digit (n % 10) ∷ [])
-
 pub length_decimal : (n : ℕ) → length (decimal n) ≤ 20
 length_decimal n = length_digits 20 n
-
--- ---- a number in a buffer: its only digit, or its last one after the others
-
-pub puts_small : (out : List ℕ) (at n : ℕ) → n < 10 → Puts out at (decimal n) (at + 1) (set out at (digit n))
-puts_small out at n h = puts_as (sym (decimal_small n h)) (puts_byte out at (digit n))
-
-pub puts_large : (out rest : List ℕ) (at last n : ℕ) → 10 ≤ n → n < 2 ^ 64 → Puts out at (decimal (n / 10)) last rest
-    → Puts out at (decimal n) (last + 1) (set rest last (digit (n % 10)))
-puts_large out rest at last n h b p = puts_as (sym (decimal_large n h b)) (puts_more p (puts_byte rest last (digit (n % 10))))
 
 -- a key and a number take at most the key's bytes and 20
 pub field_end : {out after : List ℕ} {at next : ℕ} (key : List ℕ) (n : ℕ) → Puts out at (key ++ decimal n) next after
@@ -155,18 +132,25 @@ field_end key n p = omega (arith, length_decimal n, simp length-append at p.plac
 
 -- ---- a form with its numbers
 
-filled_none : (form : List ℕ) → filled form [] ≡ form
+filled_end : (numbers : List ℕ) → filled [] numbers ≡ []
 unfolding filled
-filled_none form = refl
+filled_end [] = refl
+filled_end (n ∷ numbers) = refl
 
 filled_number : (b n : ℕ) (form numbers : List ℕ) → eqb b hash ≡ true → filled (b ∷ form) (n ∷ numbers) ≡ decimal n ++ filled form numbers
 unfolding filled
-filled_number b n form numbers h = cond_true (eqb b hash) _ _ h
+filled_number b n form numbers h = cond-true (eqb b hash) _ _ h
 
+-- a byte stands for itself: it is no hash, or no number is left
 filled_byte : (b : ℕ) (form numbers : List ℕ) → eqb b hash ≡ false → filled (b ∷ form) numbers ≡ b ∷ filled form numbers
 unfolding filled
 filled_byte b form [] h = refl
-filled_byte b form (n ∷ numbers) h = cond_false (eqb b hash) _ _ h
+filled_byte b form (n ∷ numbers) h = cond-false (eqb b hash) _ _ h
+
+filled_none : (b : ℕ) (form numbers : List ℕ) → length numbers ≡ 0 → filled (b ∷ form) numbers ≡ b ∷ filled form numbers
+unfolding filled
+filled_none b form [] h = refl
+filled_none b form (n ∷ numbers) h = absurd (omega arith)
 
 pub filled_short : (form numbers : List ℕ) → length (filled form numbers) ≤ length form + 20 * length numbers
 unfolding filled
@@ -184,67 +168,57 @@ pub form_end : {out after : List ℕ} {at next : ℕ} (form numbers : List ℕ) 
     → next ≤ at + (length form + 20 * length numbers)
 form_end form numbers p = omega (arith, p.place, filled_short form numbers)
 
--- a hash, and a number is left
-pub both : (a b : Bool) → (a && b) ≡ true → (a ≡ true) × (b ≡ true)
-both true b h = (refl, h)
-both false b h = let z : false ≡ true = h in (cc, cc)
-
-filled_end : (numbers : List ℕ) → filled [] numbers ≡ []
-unfolding filled
-filled_end [] = refl
-filled_end (n ∷ numbers) = refl
-
--- the byte at i stands for itself: it is no hash, or no number is left
-byte_by : (b : ℕ) (form numbers : List ℕ) (told : ℕ) (found : Bool) → eqb b hash ≡ found → (found && ltb told (length numbers)) ≡ false
-    → filled (b ∷ form) (drop told numbers) ≡ b ∷ filled form (drop told numbers)
-byte_by b form numbers told false e h = filled_byte b form (drop told numbers) e
-byte_by b form numbers told true e h =
-    let none = drop_of_length-le numbers {i = told} (ltb-false told (length numbers) h) in
-    rw none (filled_none (b ∷ form) ∙ ap (λ (l : List ℕ). b ∷ l) (sym (filled_none form)))
-
 -- part of a form is written: what of it is in the buffer, and what is still to come
-pub record Filling (out : List ℕ) (at : ℕ) (form numbers after : List ℕ) (next told i : ℕ) : Type 0 where
+pub record Filling (before : Writer) (form numbers : List ℕ) (after : Writer) (rest left : List ℕ) : Type 0 where
   pub text : List ℕ
-  pub puts : Puts out at text next after
-  pub rest : text ++ filled (drop i form) (drop told numbers) ≡ filled form numbers
+  pub appends : Appends before text after
+  pub whole : text ++ filled rest left ≡ filled form numbers
 
-pub filling_none : (out : List ℕ) (at : ℕ) (form numbers : List ℕ) → Filling out at form numbers out at 0 0
-filling_none out at form numbers =
-    record { text = []; puts = puts_none out at; rest = refl }
+pub filling_none : (w : Writer) (form numbers : List ℕ) → Filling w form numbers w form numbers
+filling_none w form numbers = record { text = []; appends = appends_none w; whole = refl }
 
-pub filling_number : {out after after' : List ℕ} {at next next' : ℕ} (form numbers : List ℕ) (told i : ℕ)
-    → Filling out at form numbers after next told i → i < length form → (eqb (get_or form i 0) hash && ltb told (length numbers)) ≡ true
-    → Puts after next (decimal (get_or numbers told 0)) next' after' → Filling out at form numbers after' next' (told + 1) (i + 1)
-filling_number form numbers told i f h e p =
-    let k = ltb-true told (length numbers) (both (eqb (get_or form i 0) hash) _ e).1 in
-    let n = decimal (get_or numbers told 0) in
-    let after_it = filled (drop (suc i) form) (drop (suc told) numbers) in
-    let here : filled (drop i form) (drop told numbers) ≡ n ++ after_it
-    = rw (drop-cons form i 0 h, drop-cons numbers told 0 k) (filled_number (get_or form i 0) (get_or numbers told 0) _ _ (both (eqb (get_or form i 0) hash) _ e).0) in
+filling_more : {before middle after : Writer} {form numbers rest left rest' left' more : List ℕ} → Filling before form numbers middle rest left
+    → filled rest left ≡ more ++ filled rest' left' → Appends middle more after → Filling before form numbers after rest' left'
+filling_more {form = form} {numbers = numbers} {rest' = rest'} {left' = left'} {more = more} f e p =
     record {
-      text = f.text ++ n;
-      puts = puts_more f.puts p;
-      rest = rw (add-one i, add-one told) (append_assoc f.text n after_it ∙ ap (λ (l : List ℕ). f.text ++ l) (sym here) ∙ f.rest);
+      text = f.text ++ more;
+      appends = appends_more f.appends p;
+      whole = append_assoc f.text more (filled rest' left') ∙ ap (λ (l : List ℕ). f.text ++ l) (sym e) ∙ f.whole;
     }
 
-pub filling_byte : {out after : List ℕ} {at next : ℕ} (form numbers : List ℕ) (told i : ℕ)
-    → Filling out at form numbers after next told i → i < length form → (eqb (get_or form i 0) hash && ltb told (length numbers)) ≡ false
-    → Filling out at form numbers (set after next (get_or form i 0)) (next + 1) told (i + 1)
-filling_byte {out} {after} {at} {next} form numbers told i f h e =
-    let b = get_or form i 0 in
-    let after_it = filled (drop (suc i) form) (drop told numbers) in
-    let here : filled (drop i form) (drop told numbers) ≡ b ∷ after_it = rw (drop-cons form i 0 h) (byte_by b _ numbers told (eqb b hash) refl e) in
-    record {
-      text = f.text ++ (b ∷ []);
-      puts = puts_more f.puts (puts_byte after next b);
-      rest = rw add-one (append_assoc f.text (b ∷ []) after_it ∙ ap (λ (l : List ℕ). f.text ++ l) (sym here) ∙ f.rest);
-    }
+-- the next byte is a hash, and a number is left
+pub filling_number : {before middle after : Writer} {form numbers left rest : List ℕ} {n : ℕ} (bytes : List ℕ) (i : ℕ)
+    → Filling before form numbers middle (drop i bytes) left → i < length bytes → get_or bytes i 0 ≡ hash → left ≡ n ∷ rest
+    → Appends middle (decimal n) after → Filling before form numbers after (drop (i + 1) bytes) rest
+filling_number {rest = rest} {n = n} bytes i f h e k p =
+    filling_more f (rw (k, drop-cons bytes i 0 h, add-one) (filled_number _ n _ rest (eq-eqb _ hash e))) p
 
-pub filling_all : {out after : List ℕ} {at next : ℕ} (form numbers : List ℕ) (told i : ℕ) → Filling out at form numbers after next told i
-    → length form ≤ i → Puts out at (filled form numbers) next after
-filling_all form numbers told i f h =
-    let none : filled (drop i form) (drop told numbers) ≡ [] = rw (drop_of_length-le form {i = i} h) (filled_end (drop told numbers)) in
-    puts_as (sym (append-nil f.text) ∙ ap (λ (l : List ℕ). f.text ++ l) (sym none) ∙ f.rest) f.puts
+-- it is no hash, or no number is left
+pub filling_byte : {before middle after : Writer} {form numbers left : List ℕ} (bytes : List ℕ) (i : ℕ)
+    → Filling before form numbers middle (drop i bytes) left → i < length bytes → (get_or bytes i 0 ≡ hash → ⊥)
+    → Appends middle (get_or bytes i 0 ∷ []) after → Filling before form numbers after (drop (i + 1) bytes) left
+filling_byte {left = left} bytes i f h e p =
+    filling_more f (rw (drop-cons bytes i 0 h, add-one) (filled_byte _ _ left (ne_eqb _ hash e))) p
+
+pub filling_rest : {before middle after : Writer} {form numbers left : List ℕ} (bytes : List ℕ) (i : ℕ)
+    → Filling before form numbers middle (drop i bytes) left → i < length bytes → length left ≡ 0
+    → Appends middle (get_or bytes i 0 ∷ []) after → Filling before form numbers after (drop (i + 1) bytes) left
+filling_rest {left = left} bytes i f h e p =
+    filling_more f (rw (drop-cons bytes i 0 h, add-one) (filled_none _ _ left e)) p
+
+-- there is room for a number where there is room for 20 bytes
+pub room_decimal : (at room n : ℕ) → at + 20 ≤ room → at + length (decimal n) ≤ room
+room_decimal at room n h = omega (arith, length_decimal n)
+
+-- and what is left of it after the number
+pub room_after : {before after : Writer} (n : ℕ) → Appends before (decimal n) after → (more : ℕ) → before.at + (20 + more) ≤ length before.out.now
+    → after.at + more ≤ length after.out.now
+room_after n p more h = omega (arith, p.puts, length_decimal n)
+
+pub filling_all : {before after : Writer} {form numbers rest left : List ℕ} → Filling before form numbers after rest left → rest ≡ []
+    → Appends before (filled form numbers) after
+filling_all {left = left} f e =
+    appends_as (sym (append-nil f.text) ∙ ap (λ (l : List ℕ). f.text ++ l) (sym (ap (λ (l : List ℕ). filled l left) e ∙ filled_end left)) ∙ f.whole) f.appends
 
 -- ---- fields one after the other: from a form they come nested to the right, in a text to the left
 

@@ -1,5 +1,6 @@
--- Text as bytes: ASCII, decimal numbers, and a buffer with a text written into it.
-use Rattle.std.specs.Prelude.{cond, List, [], ◌∷◌, ◌++◌, ◌≡◌, ℕ, zero, suc, ◌+◌, ◌/◌, ◌%◌, ltb, eqb, length}
+-- Text as bytes: ASCII, decimal numbers, forms, and a buffer with a text written into it.
+use Rattle.std.specs.Prelude.{cond, List, [], ◌∷◌, ◌++◌, ◌≡◌, ℕ, zero, suc, ◌+◌, ◌/◌, ◌%◌, ◌≤◌, ltb, eqb, length}
+use Rattle.text.specs.declared.Writer.{Writer}
 use Prim.Native.Char.{code}
 use Prim.Native.String.{String, [] as no_more, ◌∷◌ as ◌then◌}
 use Rattle.std.proofs.lemmas.List.Edits.{sets}
@@ -45,3 +46,12 @@ pub record Puts (out : List ℕ) (at : ℕ) (text : List ℕ) (next : ℕ) (afte
   pub place : next ≡ at + length text
   pub bytes : after ≡ written out at text
   pub size : length after ≡ length out
+
+-- a writer has room for so many bytes more
+abbrev pub Room : Writer → ℕ → Type 0
+Room w bytes = w.at + bytes ≤ length w.out.now
+
+-- a text is put at the place of a writer, which keeps its buffer
+pub record Appends (before : Writer) (text : List ℕ) (after : Writer) : Type 0 where
+  pub puts : Puts before.out.now before.at text after.at after.out.now
+  pub buffer : after.out.ghost_name ≡ before.out.ghost_name

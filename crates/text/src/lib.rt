@@ -1,66 +1,73 @@
-// Text into a lent buffer: bytes as they are, and numbers in decimal. Each function writes from a place on and answers the place
-// after what it wrote.
+// Text into a lent buffer: bytes as they are, and numbers in decimal.
 
 #![tactic(auto)]
 
-ghost use Rattle.std.specs.Prelude.{◌++◌, ◌+◌, ◌*◌, ◌≤◌, length};
-ghost use Rattle.text.specs.Text.{decimal, filled, Puts};
+ghost use Rattle.std.specs.Prelude.{[], ◌∷◌, ◌++◌, ◌+◌, ◌*◌, length};
+ghost use Rattle.text.specs.Text.{decimal, filled, Room, Appends};
 
-// Writes a text.
-pub fn put(out: &mut [u8], at: usize, text: &[u8]) -> usize
-    requires { at + length text.now ≤ length out.old }
-    ensures { Puts out.old at text.now result out.new }
-{
-    let mut i = 0;
-    while i < text.len() {
-        out[at + i] = text[i];
-        i += 1;
+// What stands for a number in a form.
+const HASH: u8 = b'#';
+
+// A lent buffer, and the place in it up to which it is written.
+// No `write!` with a Display: std promises its text where it answers Ok, and not that it does where there is room; these always write.
+#[derive(Drop)]
+pub struct Writer<'a> {
+    pub out: &'a mut [u8],
+    pub at: usize,
+}
+
+impl<'a> Writer<'a> {
+    // Writes a text.
+    pub fn put(&mut self, text: &[u8])
+        requires { Room self.old (length text.now) }
+        ensures { Appends self.old text.now self.new }
+    {
+        let end = self.at + text.len();
+        self.out[self.at..end].copy_from_slice(text);
+        self.at = end;
     }
-    at + i
-}
 
-// Writes a number in decimal, without leading zeros.
-pub fn put_decimal(out: &mut [u8], at: usize, n: u64) -> usize
-    requires { at + length (decimal n) ≤ length out.old }
-    ensures { Puts out.old at (decimal n) result out.new }
-{
-    if n < 10 {
-        out[at] = 48 + n as u8;
-        at + 1
-    } else {
-        let last = put_decimal(out, at, n / 10);
-        out[last] = 48 + (n % 10) as u8;
-        last + 1
+    // Writes a byte.
+    fn put_byte(&mut self, byte: u8)
+        requires { Room self.old 1 }
+        ensures { Appends self.old (byte ∷ []) self.new }
+    {
+        self.out[self.at] = byte;
+        self.at += 1;
     }
-}
 
-// Writes a key and its number.
-pub fn put_field(out: &mut [u8], at: usize, key: &[u8], n: u64) -> usize
-    requires { at + length key.now + length (decimal n) ≤ length out.old }
-    ensures { Puts out.old at (key.now ++ decimal n) result out.new }
-{
-    let number = put(out, at, key);
-    put_decimal(out, number, n)
-}
+    // Writes a number in decimal, without leading zeros.
+    pub fn put_decimal(&mut self, n: u64)
+        requires { Room self.old (length (decimal n)) }
+        ensures { Appends self.old (decimal n) self.new }
+    {
+        self.put(itoa::Buffer::new().format(n).as_bytes());
+    }
 
-// Writes a form, a text in which each hash stands for the next of some numbers, and for itself where none is left. A number has at
-// most 20 digits.
-pub fn put_form(out: &mut [u8], at: usize, form: &[u8], numbers: &[u64]) -> usize
-    requires { at + (length form.now + 20 * length numbers.now) ≤ length out.old }
-    ensures { Puts out.old at (filled form.now numbers.now) result out.new }
-{
-    let mut next = at;
-    let mut told: usize = 0;
-    let mut i: usize = 0;
-    while i < form.len() {
-        if (form[i] == b'#') & (told < numbers.len()) {
-            next = put_decimal(out, next, numbers[told]);
-            told += 1;
-        } else {
-            out[next] = form[i];
-            next += 1;
+    // Writes a key and its number.
+    pub fn put_field(&mut self, key: &[u8], n: u64)
+        requires { Room self.old (length key.now + length (decimal n)) }
+        ensures { Appends self.old (key.now ++ decimal n) self.new }
+    {
+        self.put(key);
+        self.put_decimal(n);
+    }
+
+    // Writes a form, a text in which each hash stands for the next of some numbers, and for itself where none is left. A number has at
+    // most 20 digits.
+    pub fn put_form(&mut self, form: &[u8], numbers: &[u64])
+        requires { Room self.old (length form.now + 20 * length numbers.now) }
+        ensures { Appends self.old (filled form.now numbers.now) self.new }
+    {
+        let mut left = numbers;
+        for &byte in form {
+            match left.split_first() {
+                Some((&n, rest)) if byte == HASH => {
+                    self.put_decimal(n);
+                    left = rest;
+                }
+                _ => self.put_byte(byte),
+            }
         }
-        i += 1;
     }
-    next
 }

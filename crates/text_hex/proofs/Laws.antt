@@ -1,13 +1,17 @@
--- Sums that are reduced on the way, one more byte in hexadecimal, and how long that is.
-use mathlib.Core.List.{List, [], ◌∷◌, ◌++◌}
+-- Sums that are reduced on the way, the digits of the library, and how long hexadecimal is.
+use mathlib.Core.Bool.{Bool, true, false, ◌&&◌}
+use mathlib.Core.List.{List, [], ◌∷◌}
 use mathlib.Core.Path.{◌≡◌, refl, sym, ◌∙◌}
-use Prim.Native.Nat.{ℕ, ◌+◌, ◌*◌, ◌/◌, ◌%◌, ◌≤◌, ◌<◌}
+use Prim.Native.Nat.{ℕ, zero, suc, ◌+◌, ◌*◌, ◌/◌, ◌%◌, ◌≤◌, ◌<◌}
 use native.Mathlib.Numerals.{add-one}
 use native.Mathlib.Omega.{arith}
-use lib.ListN.{length, set, take, drop, get_or, length-set, drop_of_length-le}
-use lib.Seq.{take-suc, drop-cons}
-use Rattle.text.specs.Text.{Puts, ascii, written}
-use Rattle.text.proofs.Laws.{puts_more, puts_as}
+use lib.Dec.{eqb}
+use borrow.Author.Tests.{eqb-true, eqb-false}
+use lib.ListN.{length, drop, get_or, drop_of_length-le}
+use lib.Seq.{drop-cons}
+use Rattle.std.specs.Prelude.{slice_index}
+use Rattle.text.specs.Text.{ascii}
+use Rattle.hex.specs.Hex.{lower_digits, encode_with, encode_lower}
 use Rattle.text_hex.specs.Dump.{sums, adler, hex_digit, hex_digits, hex}
 
 -- ---- the checksum
@@ -40,39 +44,47 @@ sums_end a b bytes i h e = rw (drop_of_length-le bytes h) at e
 
 -- ---- hexadecimal
 
-pub puts_two : (out : List ℕ) (at x y : ℕ) → Puts out at (x ∷ y ∷ []) (at + 2) (set (set out at x) (at + 1) y)
-unfolding written
-puts_two out at x y =
-    record {
-      place = refl;
-      bytes = rw add-one refl;
-      size = simp length-set;
-    }
+both : (a b : Bool) → (a && b) ≡ true → (a ≡ true) × (b ≡ true)
+both true b h = (refl, h)
+both false b h = let z : false ≡ true = h in (cc, cc)
 
-digits_append : (a b : List ℕ) → hex_digits (a ++ b) ≡ hex_digits a ++ hex_digits b
-unfolding hex_digits
-digits_append [] b = refl
-digits_append (byte ∷ a) b = rw (digits_append a b) refl
+-- the digits of the library, up to the k-th
+digits_agree : ℕ → Bool
+digits_agree zero = true
+digits_agree (suc k) = eqb (slice_index lower_digits k) (hex_digit k) && digits_agree k
 
-digits_next : (bytes : List ℕ) (i : ℕ) → i < length bytes
-    → hex_digits (take i bytes) ++ (hex_digit (get_or bytes i 0 / 16) ∷ hex_digit (get_or bytes i 0 % 16) ∷ []) ≡ hex_digits (take (i + 1) bytes)
-unfolding hex_digits
-digits_next bytes i h = rw (add-one, take-suc bytes i 0) (sym (digits_append (take i bytes) (get_or bytes i 0 ∷ [])))
+digit_below : (k n : ℕ) → n < k → digits_agree k ≡ true → slice_index lower_digits n ≡ hex_digit n
+unfolding digits_agree
+digit_below zero n h e = absurd (omega arith)
+digit_below (suc k) n h e =
+    let here = both (eqb (slice_index lower_digits k) (hex_digit k)) (digits_agree k) e in
+    by_last (eqb n k) refl (eqb-true (slice_index lower_digits k) (hex_digit k) here.0) (λ l. digit_below k n l here.1)
+  where
+    by_last : (last : Bool) → eqb n k ≡ last → slice_index lower_digits k ≡ hex_digit k
+        → (n < k → slice_index lower_digits n ≡ hex_digit n) → slice_index lower_digits n ≡ hex_digit n
+    by_last true l e before = rw (eqb-true n k l) e
+    by_last false l e before = before (let apart = eqb-false n k l in omega arith)
 
-pub digits_go_on : (out middle bytes : List ℕ) (at next i x y : ℕ) → i < length bytes → x ≡ hex_digit (get_or bytes i 0 / 16)
-    → y ≡ hex_digit (get_or bytes i 0 % 16) → Puts out at (hex_digits (take i bytes)) next middle
-    → Puts out at (hex_digits (take (i + 1) bytes)) (next + 2) (set (set middle next x) (next + 1) y)
-digits_go_on out middle bytes at next i x y h p q puts =
-    puts_as (digits_next bytes i h) (puts_more puts (rw (p, q) (puts_two middle next _ _)))
+digit_is : (n : ℕ) → n < 16 → slice_index lower_digits n ≡ hex_digit n
+unfolding digits_agree hex_digit
+digit_is n h = digit_below 16 n h refl
+
+-- as the library writes them
+pub digits_are : (bytes : List ℕ) → ((i : ℕ) → get_or bytes i 0 < 256) → encode_lower bytes ≡ hex_digits bytes
+unfolding hex_digits encode_with
+digits_are [] h = refl
+digits_are (byte ∷ bytes) h =
+    let b : byte < 256 = h 0 in
+    rw (digit_is (byte / 16) (omega arith), digit_is (byte % 16) (omega arith), digits_are bytes (λ i. h (suc i))) refl
 
 pub hex_none : (bytes : List ℕ) → length bytes ≡ 0 → ascii "-" ≡ hex bytes
 unfolding hex
 hex_none [] h = refl
 hex_none (byte ∷ bytes) h = absurd (omega arith)
 
-pub hex_some : (bytes : List ℕ) → 0 < length bytes → hex_digits bytes ≡ hex bytes
+pub hex_some : (bytes : List ℕ) → (length bytes ≡ 0 → ⊥) → hex_digits bytes ≡ hex bytes
 unfolding hex
-hex_some [] h = absurd (omega arith)
+hex_some [] h = absurd (h refl)
 hex_some (byte ∷ bytes) h = refl
 
 -- ---- how long it is

@@ -1,11 +1,12 @@
-// Bytes as text: a checksum, and hexadecimal into a lent buffer. What writes does so from a place on and answers the place after what
-// it wrote.
+// Bytes as text: a checksum, and hexadecimal.
 
 #![tactic(auto)]
 
-ghost use Rattle.std.specs.Prelude.{◌≡◌, ◌+◌, ◌*◌, ◌^◌, ◌<◌, ◌≤◌, length};
-ghost use Rattle.text.specs.Text.{Puts};
-ghost use Rattle.text_hex.specs.Dump.{adler as adler_of, hex_digit as hex_digit_of, hex_digits, hex};
+ghost use Rattle.std.specs.Prelude.{◌≡◌, ◌+◌, ◌*◌, ◌^◌, ◌<◌, length};
+ghost use Rattle.text.specs.Text.{Room, Appends};
+ghost use Rattle.text_hex.specs.Dump.{adler as adler_of, hex};
+
+use text::Writer;
 
 // The modulus of Adler-32, and where its sums are reduced: a step more still fits.
 const MODULUS: u64 = 65521;
@@ -18,51 +19,27 @@ pub fn adler(bytes: &[u8]) -> u64
 {
     let mut a: u64 = 1;
     let mut b: u64 = 0;
-    let mut i: usize = 0;
-    while i < bytes.len() {
-        a += bytes[i] as u64;
+    for &byte in bytes {
+        a += byte as u64;
         b += a;
         if LARGE <= b {
-            a = a % MODULUS;
-            b = b % MODULUS;
+            a %= MODULUS;
+            b %= MODULUS;
         }
-        i += 1;
     }
     b % MODULUS * 65536 + a % MODULUS
 }
 
 // Writes bytes in hexadecimal, or a dash for none.
-pub fn put_hex(out: &mut [u8], at: usize, bytes: &[u8]) -> usize
-    requires { at + (2 * length bytes.now + 1) ≤ length out.old }
-    ensures { Puts out.old at (hex bytes.now) result out.new }
+pub fn put_hex(writer: &mut Writer, bytes: &[u8])
+    requires { Room writer.old (2 * length bytes.now + 1) }
+    ensures { Appends writer.old (hex bytes.now) writer.new }
 {
-    if bytes.len() == 0 {
-        text::put(out, at, b"-")
+    if bytes.is_empty() {
+        writer.put(b"-");
     } else {
-        put_digits(out, at, bytes)
+        let end = writer.at + 2 * bytes.len();
+        hex::encode_to_slice(bytes, &mut writer.out[writer.at..end]).unwrap();
+        writer.at = end;
     }
-}
-
-// Two digits a byte.
-fn put_digits(out: &mut [u8], at: usize, bytes: &[u8]) -> usize
-    requires { at + 2 * length bytes.now ≤ length out.old }
-    ensures { Puts out.old at (hex_digits bytes.now) result out.new }
-{
-    let mut next = at;
-    let mut i: usize = 0;
-    while i < bytes.len() {
-        let byte = bytes[i];
-        out[next] = hex_digit(byte / 16);
-        out[next + 1] = hex_digit(byte % 16);
-        next += 2;
-        i += 1;
-    }
-    next
-}
-
-fn hex_digit(n: u8) -> u8
-    requires { n < 16 }
-    ensures { result ≡ hex_digit_of n }
-{
-    if n < 10 { b'0' + n } else { b'a' + (n - 10) }
 }

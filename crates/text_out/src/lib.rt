@@ -2,26 +2,39 @@
 
 #![tactic(auto)]
 
-ghost use Rattle.std.specs.Prelude.{◌≤◌, length};
+ghost use Rattle.std.specs.Prelude.{◌≤◌, IfOk, length};
 
 use std::io;
-use std::io::Write;
+use std::io::{Read, Write};
+use text::Writer;
 
-// Writes the first bytes of a buffer, says on standard error where that fails, and answers whether it did not.
-pub fn write<R: Print + Eprint>(rt: &R, out: &[u8], bytes: usize) -> bool
-    requires { bytes ≤ length out.now }
+// A read or a write failed, and standard error says so.
+#[derive(Drop)]
+pub struct Failed;
+
+// Writes to standard output what was written into a buffer.
+pub fn write<R: Print + Eprint>(rt: &R, writer: Writer) -> Result<(), Failed>
+    requires { writer.at ≤ length writer.out.now }
 {
-    match rt.write_all(&out[..bytes]) {
-        Ok(()) => true,
-        Err(error) => {
-            fail(rt, "standard output", error);
-            false
-        }
+    let Writer { out, at } = writer;
+    match rt.write_all(&out[..at]) {
+        Ok(()) => Ok(()),
+        Err(error) => Err(fail(rt, "standard output", error)),
+    }
+}
+
+// Reads once from standard input, and answers how many bytes.
+pub fn read<R: Eprint, S: Read>(rt: &R, stdin: &mut S, input: &mut [u8]) -> Result<usize, Failed>
+    ensures { IfOk result (λ bytes. bytes ≤ length input.old) }
+{
+    match stdin.read(input) {
+        Ok(bytes) => Ok(bytes),
+        Err(error) => Err(fail(rt, "standard input", error)),
     }
 }
 
 // Says on standard error what failed, and the system's reason in words.
-pub fn fail<R: Eprint>(rt: &R, what: &str, error: io::Error) {
+fn fail<R: Eprint>(rt: &R, what: &str, error: io::Error) -> Failed {
     let mut text = [0u8; 320];
     let mut rest = &mut text[..];
     let _ = write!(rest, "{error}");
@@ -31,4 +44,5 @@ pub fn fail<R: Eprint>(rt: &R, what: &str, error: io::Error) {
         None => said.trim_end_matches('\0'),
     };
     let _ = eprintln!(rt; "{what}: {reason}");
+    Failed
 }

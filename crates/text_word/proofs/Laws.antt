@@ -1,9 +1,7 @@
 -- How long the words are.
-use mathlib.Core.List.{List}
-use mathlib.Core.Path.{◌≡◌, ap}
-use Prim.Native.Nat.{ℕ, ◌≤◌}
+use Prim.Native.Nat.{◌≤◌}
 use native.Mathlib.Omega.{arith}
-use lib.ListN.{length, take, length-take}
+use lib.ListN.{length}
 use Rattle.end_state.specs.declared.Mode.{Mode}
 use Rattle.end_state.specs.declared.Mode.TheVariants as mode
 use Rattle.receive_answer.specs.declared.Answer.{Answer}
@@ -27,7 +25,3 @@ pub mode_short : (m : Mode) → length (mode_word m) ≤ 4
 mode_short mode.Run = omega arith
 mode_short mode.Wait = omega arith
 mode_short mode.Down = omega arith
-
--- the first n bytes of an array are a word, so it has n bytes
-pub spelt_long : {word : List ℕ} (bytes : List ℕ) (n : ℕ) → take n bytes ≡ word → n ≤ length bytes → n ≡ length word
-spelt_long bytes n e h = omega (arith, length-take n bytes, ap length e)

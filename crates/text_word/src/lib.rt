@@ -1,66 +1,39 @@
-// The words for answers and modes, written into a lent buffer from a place on. Each answers the place after its word.
+// The words for answers and modes.
 
 #![tactic(auto)]
 
-ghost use Rattle.std.specs.Prelude.{◌≡◌, ◌+◌, ◌≤◌, length, take};
-ghost use Rattle.text.specs.Text.{Puts};
-ghost use Rattle.text_word.specs.Words.{answer_word, mode_word};
+ghost use Rattle.std.specs.Prelude.{◌≡◌};
+ghost use Rattle.text_word.specs.Words.{answer_word as word_of_answer, mode_word as word_of_mode};
 
 use end_state::Mode;
 use receive_answer::Answer;
 
-// A word and its length: the bytes after it are not looked at.
-#[derive(Clone, Copy)]
-struct Word([u8; 9], usize);
-
-// Writes the word of an answer.
-pub fn put_answer(out: &mut [u8], at: usize, answer: Answer) -> usize
-    requires { at + 9 ≤ length out.old }
-    ensures { Puts out.old at (answer_word answer) result out.new }
-{
-    put_word(out, at, word_of_answer(answer))
-}
-
-// Writes the word of a mode.
-pub fn put_mode(out: &mut [u8], at: usize, mode: Mode) -> usize
-    requires { at + 4 ≤ length out.old }
-    ensures { Puts out.old at (mode_word mode) result out.new }
-{
-    put_word(out, at, word_of_mode(mode))
-}
-
-fn put_word(out: &mut [u8], at: usize, word: Word) -> usize
-    requires { (word.1 ≤ length word.0) × (at + word.1 ≤ length out.old) }
-    ensures { Puts out.old at (take word.1 word.0) result out.new }
-{
-    let bytes = word.0;
-    text::put(out, at, &bytes[..word.1])
-}
-
-fn word_of_answer(answer: Answer) -> Word
-    ensures { (take result.1 result.0 ≡ answer_word answer) × (result.1 ≤ length result.0) }
+// The word of an answer.
+pub fn answer_word(answer: Answer) -> &'static [u8]
+    ensures { result.now ≡ word_of_answer answer }
 {
     match answer {
-        Answer::Refused(_) => Word(*b"refused  ", 7),
-        Answer::Held => Word(*b"held     ", 4),
-        Answer::Delivered(_) => Word(*b"delivered", 9),
-        Answer::Duplicate => Word(*b"duplicate", 9),
-        Answer::Idle => Word(*b"idle     ", 4),
-        Answer::Replayed => Word(*b"replayed ", 8),
-        Answer::Ahead => Word(*b"ahead    ", 5),
-        Answer::Skipped => Word(*b"skipped  ", 7),
-        Answer::Damaged => Word(*b"damaged  ", 7),
-        Answer::Discarded => Word(*b"discarded", 9),
-        Answer::Down(_) => Word(*b"down     ", 4),
+        Answer::Refused(_) => b"refused",
+        Answer::Held => b"held",
+        Answer::Delivered(_) => b"delivered",
+        Answer::Duplicate => b"duplicate",
+        Answer::Idle => b"idle",
+        Answer::Replayed => b"replayed",
+        Answer::Ahead => b"ahead",
+        Answer::Skipped => b"skipped",
+        Answer::Damaged => b"damaged",
+        Answer::Discarded => b"discarded",
+        Answer::Down(_) => b"down",
     }
 }
 
-fn word_of_mode(mode: Mode) -> Word
-    ensures { (take result.1 result.0 ≡ mode_word mode) × (result.1 ≤ length result.0) }
+// The word of a mode.
+pub fn mode_word(mode: Mode) -> &'static [u8]
+    ensures { result.now ≡ word_of_mode mode }
 {
     match mode {
-        Mode::Run => Word(*b"run      ", 3),
-        Mode::Wait => Word(*b"wait     ", 4),
-        Mode::Down => Word(*b"down     ", 4),
+        Mode::Run => b"run",
+        Mode::Wait => b"wait",
+        Mode::Down => b"down",
     }
 }

@@ -1,9 +1,13 @@
 -- Laws of the ticket: what a call leaves of each count, and its text as a form.
 use mathlib.Core.List.{List, ◌++◌, append_assoc}
-use mathlib.Core.Path.{◌≡◌, ap}
+use mathlib.Core.Path.{◌≡◌, refl, ap}
 use Prim.Native.Nat.{ℕ, ◌+◌, ◌≤◌, ◌<◌, ◌^◌}
 use native.Mathlib.Omega.{arith}
 use lib.ListN.{length}
+use Rattle.flit_number.specs.declared.FlitCount.{FlitCount}
+use Rattle.receive_answer.specs.declared.Answer.{Answer}
+use Rattle.receive_answer.specs.declared.Cause.{Cause}
+use Rattle.receive_answer.specs.declared.Answer.TheVariants as answer
 use Rattle.text.specs.Text.{ascii, decimal, filled}
 use Rattle.text.proofs.Laws.{filled_short}
 use Rattle.ticket.specs.declared.Ticket.{Ticket}
@@ -25,6 +29,22 @@ after_is t c u r e p q v w x = rw e (counts_are _ _ _ _ _ _ _ _ _ _ p q v w x)
 pub unchanged_is : (t : Ticket) (c : TicketCall) → t.accepted < 2 ^ 32 → t.delivered < 2 ^ 32 → t.damaged < 2 ^ 32 → t.duplicate < 2 ^ 32
     → t.downs < 2 ^ 32 → adds c ≡ nothing → t ≡ ticket_after t c
 unchanged_is t c p q v w x e = after_is t c nothing t e (omega arith) (omega arith) (omega arith) (omega arith) (omega arith)
+
+-- the answers that count nothing
+pub uncounted : (a : Answer) → ((flits : FlitCount) → a ≡ answer.Delivered flits → ⊥) → (a ≡ answer.Damaged → ⊥) → (a ≡ answer.Duplicate → ⊥)
+    → ((cause : Cause) → a ≡ answer.Down cause → ⊥) → adds (TicketCall.receives a) ≡ nothing
+unfolding adds
+uncounted (answer.Refused r) d m u w = refl
+uncounted answer.Held d m u w = refl
+uncounted (answer.Delivered flits) d m u w = absurd (d flits refl)
+uncounted answer.Duplicate d m u w = absurd (u refl)
+uncounted answer.Idle d m u w = refl
+uncounted answer.Replayed d m u w = refl
+uncounted answer.Ahead d m u w = refl
+uncounted answer.Skipped d m u w = refl
+uncounted answer.Damaged d m u w = absurd (m refl)
+uncounted answer.Discarded d m u w = refl
+uncounted (answer.Down cause) d m u w = absurd (w cause refl)
 
 -- ---- its text
 

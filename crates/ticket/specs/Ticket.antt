@@ -1,20 +1,17 @@
 -- The counts of a session (01, "The bench ticket"): what a call adds to each, and the ticket as text.
-use Rattle.std.specs.Prelude.{cond, List, [], ◌∷◌, ◌++◌, ℕ, ◌+◌, min, leb, length}
+use Rattle.std.specs.Prelude.{cond, List, [], ◌∷◌, ◌++◌, ℕ, ◌+◌, min, leb, length, Option, Some, None, Result, Ok, Err}
 use Prim.Native.String.{String}
 use Rattle.text.specs.Text.{ascii, key_value, written}
-use Rattle.end_state.specs.declared.Verdict.{Verdict}
-use Rattle.end_state.specs.declared.Verdict.TheVariants as verdict
+use Rattle.end_state.specs.declared.Refusal.{Refusal}
 use Rattle.receive_answer.specs.declared.Answer.{Answer}
 use Rattle.receive_answer.specs.declared.Answer.TheVariants as answer
 use Rattle.ticket.specs.declared.Ticket.{Ticket}
-use Rattle.ticket.specs.declared.Output.{Output}
-use Rattle.ticket.specs.declared.Output.TheVariants.{Written, Short}
 
 -- ---- what a call adds
 
 -- a call that counts: accept of a unit of so many flits, with what it returned, and receive, with its answer
 pub data TicketCall : Type 0 where
-  accepts : Verdict → ℕ → TicketCall
+  accepts : Result (Unit {0}) Refusal → ℕ → TicketCall
   receives : Answer → TicketCall
 
 -- TL flits accepted, TL flits delivered, answers damaged, units duplicate, times gone down
@@ -26,8 +23,8 @@ nothing = counts 0 0 0 0 0
 
 -- a unit is its data flits and the control flit; a refused call adds nothing
 unfoldable pub adds : TicketCall → Ticket
-adds (accepts verdict.Admitted flits) = counts flits 0 0 0 0
-adds (accepts (verdict.Refused r) flits) = nothing
+adds (accepts (Ok u) flits) = counts flits 0 0 0 0
+adds (accepts (Err r) flits) = nothing
 adds (receives (answer.Delivered n)) = counts 0 (n.0 + 1) 0 0 0
 adds (receives answer.Damaged) = counts 0 0 1 0 0
 adds (receives answer.Duplicate) = counts 0 0 0 1 0
@@ -78,8 +75,8 @@ text t =
     ++ key_line "downs=" t.downs
 
 -- the text goes to the start of a buffer; nothing is written where that is shorter than the text
-unfoldable pub answer_for : Ticket → ℕ → Output
-answer_for t bytes = cond (leb (length (text t)) bytes) (Written (length (text t))) Short
+unfoldable pub answer_for : Ticket → ℕ → Option ℕ
+answer_for t bytes = cond (leb (length (text t)) bytes) (Some (length (text t))) None
 
 unfoldable pub ticket_output : Ticket → List ℕ → List ℕ
 ticket_output t out = cond (leb (length (text t)) (length out)) (written out 0 (text t)) out

@@ -3,15 +3,16 @@
 #![tactic(auto)]
 
 ghost use Rattle.std.specs.Prelude.{◌≡◌, ◌+◌, ◌≤◌, length};
-ghost use Rattle.text.specs.Text.{filled, Puts};
+ghost use Rattle.text.specs.Text.{filled, Puts, Room, Appends};
 ghost use Rattle.ticket.specs.Ticket.{TicketCall, nothing, stopped, ticket_after, in_order, text as text_of, answer_for, ticket_output};
 
-use end_state::Verdict;
+use end_state::Refusal;
 use flit_number::FlitCount;
 use receive_answer::Answer;
+use text::Writer;
 
 // TL flits accepted, TL flits delivered, answers damaged, units duplicate, times gone down.
-#[derive(Clone, Copy)]
+#[derive(Clone, Copy, Default)]
 pub struct Ticket {
     pub accepted: u32,
     pub delivered: u32,
@@ -20,113 +21,98 @@ pub struct Ticket {
     pub downs: u32,
 }
 
-// The bytes of a ticket's text in a buffer, or none where the buffer is shorter than it.
-#[derive(Clone, Copy)]
-pub enum Output {
-    Written(usize),
-    Short,
-}
-
 // A ticket of zeros.
 pub fn fresh() -> Ticket
     ensures { result ≡ nothing }
 {
-    Ticket {
-        accepted: 0,
-        delivered: 0,
-        damaged: 0,
-        duplicate: 0,
-        downs: 0,
-    }
+    Ticket::default()
 }
 
 // The ticket after accept of a unit of so many flits.
-pub fn after_accept(t: Ticket, verdict: Verdict, flits: FlitCount) -> Ticket
-    ensures { result ≡ ticket_after t (TicketCall.accepts verdict flits.0) }
+pub fn after_accept(t: Ticket, answer: Result<(), Refusal>, flits: FlitCount) -> Ticket
+    ensures { result ≡ ticket_after t (TicketCall.accepts answer flits.0) }
 {
-    let mut next = t;
-    match verdict {
-        Verdict::Admitted => {
-            next.accepted = more(t.accepted, flits.0);
-        }
-        Verdict::Refused(_) => {}
+    match answer {
+        Ok(()) => Ticket {
+            accepted: more(t.accepted, flits.0),
+            ..t
+        },
+        Err(_) => t,
     }
-    next
 }
 
 // The ticket after receive.
 pub fn after_receive(t: Ticket, answer: Answer) -> Ticket
     ensures { result ≡ ticket_after t (TicketCall.receives answer) }
 {
-    let mut next = t;
     match answer {
-        Answer::Delivered(data) => {
-            next.delivered = more(more(t.delivered, data.0), 1);
-        }
-        Answer::Damaged => {
-            next.damaged = more(t.damaged, 1);
-        }
-        Answer::Duplicate => {
-            next.duplicate = more(t.duplicate, 1);
-        }
-        Answer::Down(_) => {
-            next.downs = more(t.downs, 1);
-        }
-        Answer::Refused(_) => {}
-        Answer::Held => {}
-        Answer::Skipped => {}
-        Answer::Idle => {}
-        Answer::Replayed => {}
-        Answer::Ahead => {}
-        Answer::Discarded => {}
+        Answer::Delivered(data) => Ticket {
+            delivered: more(t.delivered, data.0).saturating_add(1),
+            ..t
+        },
+        Answer::Damaged => Ticket {
+            damaged: t.damaged.saturating_add(1),
+            ..t
+        },
+        Answer::Duplicate => Ticket {
+            duplicate: t.duplicate.saturating_add(1),
+            ..t
+        },
+        Answer::Down(_) => Ticket {
+            downs: t.downs.saturating_add(1),
+            ..t
+        },
+        _ => t,
     }
-    next
 }
 
 // Counts stop at the largest number.
 fn more(count: u32, n: usize) -> u32
     ensures { result ≡ stopped (count + n) }
 {
-    let left = (u32::MAX - count) as usize;
-    if n <= left {
-        count + n as u32
-    } else {
-        u32::MAX
-    }
+    count.saturating_add(u32::try_from(n).unwrap_or(u32::MAX))
 }
 
-// Writes the ticket at the start of a buffer, or nothing where the buffer is shorter than its text.
-pub fn write_ticket(t: Ticket, out: &mut [u8]) -> Output
+// Writes the ticket at the start of a buffer and answers its bytes, or nothing where the buffer is shorter than its text.
+pub fn write_ticket(t: Ticket, out: &mut [u8]) -> Option<usize>
     ensures value { result ≡ answer_for t (length out.old) }
     ensures out_after { out.new ≡ ticket_output t out.old }
 {
     let mut whole = [0u8; 160];
-    let bytes = put_ticket(&mut whole, 0, t);
-    if bytes <= out.len() {
-        text::put(out, 0, &whole[..bytes]);
-        Output::Written(bytes)
-    } else {
-        Output::Short
+    let bytes = write_whole(t, &mut whole);
+    if out.len() < bytes {
+        return None;
     }
+    out[..bytes].copy_from_slice(&whole[..bytes]);
+    Some(bytes)
 }
 
-// Writes the five lines from a place on, and answers the place after them.
-pub fn put_ticket(out: &mut [u8], at: usize, t: Ticket) -> usize
-    requires { at + 160 ≤ length out.old }
-    ensures { Puts out.old at (text_of t) result out.new }
+// Writes the ticket at the start of a buffer that has room for any, and answers its bytes.
+fn write_whole(t: Ticket, out: &mut [u8]) -> usize
+    requires { 160 ≤ length out.old }
+    ensures { Puts out.old 0 (text_of t) result out.new }
+{
+    let mut writer = Writer { out, at: 0 };
+    put_ticket(&mut writer, t);
+    writer.at
+}
+
+// Writes the five lines.
+pub fn put_ticket(writer: &mut Writer, t: Ticket)
+    requires { Room writer.old 160 }
+    ensures { Appends writer.old (text_of t) writer.new }
 {
     put_counts(
-        out,
-        at,
+        writer,
         b"accepted=#\ndelivered=#\ndamaged=#\nduplicate=#\ndowns=#\n",
         t,
-    )
+    );
 }
 
 // Writes a form with the five counts.
-pub fn put_counts(out: &mut [u8], at: usize, form: &[u8], t: Ticket) -> usize
-    requires { at + (length form.now + 100) ≤ length out.old }
-    ensures { Puts out.old at (filled form.now (in_order t)) result out.new }
+pub fn put_counts(writer: &mut Writer, form: &[u8], t: Ticket)
+    requires { Room writer.old (length form.now + 100) }
+    ensures { Appends writer.old (filled form.now (in_order t)) writer.new }
 {
     let counts = [
         t.accepted as u64,
@@ -135,5 +121,5 @@ pub fn put_counts(out: &mut [u8], at: usize, form: &[u8], t: Ticket) -> usize
         t.duplicate as u64,
         t.downs as u64,
     ];
-    text::put_form(out, at, form, &counts)
+    writer.put_form(form, &counts);
 }

@@ -4,31 +4,31 @@ use mathlib.Core.Path.{◌≡◌, refl, ap}
 use Prim.Native.Nat.{ℕ, ◌+◌, ◌-◌}
 use native.Mathlib.Omega.{arith}
 use Rattle.end_state.specs.declared.End.{End}
-use Rattle.end_state.specs.declared.Verdict.{Verdict}
-use Rattle.end_state.specs.declared.Verdict.TheVariants.{Refused, Admitted}
+use Rattle.std.specs.Prelude.{Result, Ok, Err}
+use Rattle.end_state.specs.declared.Answered.{Answered}
+use Rattle.end_state.specs.declared.Refusal.{Refusal}
+use Rattle.receive_answer.specs.declared.Answer.{Answer}
 use Rattle.ticket.specs.declared.Ticket.{Ticket}
 use Rattle.ticket.specs.Ticket.{TicketCall, ticket_after, adds}
 use Rattle.accept_verdict.specs.Admission.{flits_of, accept_verdict}
 use Rattle.accept.specs.Accept.{accept, accepted_end}
 use Rattle.receive.specs.Receive.{receive}
-use Rattle.accept.specs.declared.Accepted.{Accepted}
-use Rattle.receive.specs.declared.Received.{Received}
 use Rattle.ticket_lent.specs.Counted.{accept_ticket, receive_ticket}
 
 -- the ticket after what a call answered
-abbrev pub accepted_counts : Ticket → End → Accepted → Ticket
-accepted_counts t before accepted = ticket_after t (TicketCall.accepts accepted.verdict (accepted.end.held.0 - before.held.0))
+abbrev pub accepted_counts : Ticket → End → Answered (Result (Unit {0}) Refusal) → Ticket
+accepted_counts t before accepted = ticket_after t (TicketCall.accepts accepted.answer (accepted.end.held.0 - before.held.0))
 
-abbrev pub received_counts : Ticket → Received → Ticket
+abbrev pub received_counts : Ticket → Answered Answer → Ticket
 received_counts t received = ticket_after t (TicketCall.receives received.answer)
 
-by_verdict : (t : Ticket) (e : End) (unit : List ℕ) (v : Verdict)
+by_verdict : (t : Ticket) (e : End) (unit : List ℕ) (v : Result (Unit {0}) Refusal)
     → ticket_after t (TicketCall.accepts v ((accepted_end v e unit).held.0 - e.held.0)) ≡ ticket_after t (TicketCall.accepts v (flits_of unit))
 unfolding ticket_after adds
-by_verdict t e unit (Refused r) = refl
-by_verdict t e unit Admitted =
+by_verdict t e unit (Err r) = refl
+by_verdict t e unit (Ok u) =
     let same : e.held.0 + flits_of unit - e.held.0 ≡ flits_of unit = omega arith in
-    ap (λ (n : ℕ). ticket_after t (TicketCall.accepts Admitted n)) same
+    ap (λ (n : ℕ). ticket_after t (TicketCall.accepts (Ok u) n)) same
 
 pub accept_counts : (t : Ticket) (e : End) (store unit : List ℕ)
     → accepted_counts t e (accept e store unit) ≡ accept_ticket t e store unit

@@ -7,22 +7,22 @@ use Rattle.accept.proofs.accept.Goals as goal
 
 pub store_unit-requires : goal.store_unit-requires
 store_unit-requires c =
-    let f = admission _ _ _ (sym c.verdict.ensures ∙ c.in-Admitted.is) in
+    let f = admission _ _ _ (sym c.verdict-answer.ensures ∙ c.in-Ok.is) in
     omega (arith, f.stored, f.state.counts, f.shape, f.room)
 
-pub with_more-end-requires : goal.with_more-end-requires
-with_more-end-requires c =
-    let f = admission _ _ _ (sym c.verdict.ensures ∙ c.in-Admitted.is) in
+pub overflow_add-result : goal.overflow_add-result
+overflow_add-result c =
+    let f = admission _ _ _ (sym c.verdict-answer.ensures ∙ c.in-Ok.is) in
     omega (arith, f.stored, f.room)
 
-pub returns-in-Refused : goal.returns-in-Refused
+pub returns-in-Err : goal.returns-in-Err
 unfolding accept accept_store
-returns-in-Refused c =
-    let v = sym c.verdict.ensures ∙ c.in-Refused.is in
-    record { value = simp v; store_after = simp v }
+returns-in-Err c =
+    let v = sym c.verdict-answer.ensures ∙ c.in-Err.is in
+    record { value = simp (v, c.in-Err.is); store_after = simp v }
 
-pub returns-in-Admitted : goal.returns-in-Admitted
+pub returns-in-Ok : goal.returns-in-Ok
 unfolding accept accept_store
-returns-in-Admitted c =
-    let v = sym c.verdict.ensures ∙ c.in-Admitted.is in
-    record { value = simp (v, c.with_more-end.ensures); store_after = simp (v, c.store_unit.ensures) }
+returns-in-Ok c =
+    let v = sym c.verdict-answer.ensures ∙ c.in-Ok.is in
+    record { value = simp (v, c.in-Ok.is); store_after = simp (v, c.store_unit.ensures) }

@@ -1,83 +1,48 @@
 -- `bench_capture::print_flits` meets its contract: after n turns, what is kept, hold and the output are as after the first n flits.
-use mathlib.Core.Path.{◌≡◌, refl, ap, ◌∙◌}
-use Prim.Native.Nat.{ℕ, ◌+◌, ◌-◌, ◌*◌, ◌/◌}
-use native.Mathlib.Omega.{arith}
-use lib.ListN.{length}
-use Rattle.text.proofs.Laws.{puts_none, puts_as}
-use Rattle.end_state.proofs.Parts.{flit_is}
+use Rattle.std.proofs.Common.{rules, ◌≡◌, ◌/◌, ℕ, length, arith, ap, ◌∙◌}
+use lib.ListN.{length-append, length-drop}
+use Rattle.text.proofs.Laws.{appends_as}
 use Rattle.bench_capture.specs.declared.Bench.{Bench}
 use Rattle.bench_capture.specs.Bench.{BenchSession, flits}
-use Rattle.bench_capture.proofs.Laws.{from_here, flits_counted, lines_short, goes_on}
+use Rattle.bench_capture.proofs.Laws.{after_none, from_here, flits_counted, lines_short, goes_on, cut_off}
 use Rattle.bench_capture.proofs.print_flits.Goals as goal
 
-pub loop-n-init : goal.loop-n-init
-unfolding flits
-loop-n-init c = let a = c.args in (
-  omega arith,
-  record { keeps = refl; holds = refl; prints = puts_none a.out.now 0 },
-  refl,
-)
+pub loop-flit-init : goal.loop-flit-init
+loop-flit-init c = (after_none _ _ _ _ _, search rules, search rules, omega arith)
 
-pub overflow_mul-from : goal.overflow_mul-from
-overflow_mul-from c = omega arith
-
-pub overflow_add-to : goal.overflow_add-to
-overflow_add-to c = omega arith
-
-pub slice_bounds-print_flit-count : goal.slice_bounds-print_flit-count
-slice_bounds-print_flit-count c = omega arith
-
-pub slice_bounds-print_flit-start : goal.slice_bounds-print_flit-start
-slice_bounds-print_flit-start c = omega arith
-
-pub slice_bounds-print_flit-end : goal.slice_bounds-print_flit-end
-slice_bounds-print_flit-end c = omega arith
-
-pub print_flit-printed-requires : goal.print_flit-printed-requires
-print_flit-printed-requires c = let a = c.args in
-    let l = c.loop-n in
-    let p = c.requires in
-    let t = c.loop-n-test.true in
+pub print_flit-kept-requires : goal.print_flit-kept-requires
+print_flit-kept-requires c =
+    let a = c.args in
+    let l = c.loop-flit in
+    let n = length l.yielded in
     let s = from_here a.b a.hold.now in
-    let counted = flits_counted a.store.now s a.input.now l.n in
-    let short = lines_short a.store.now s a.input.now l.n in
-    let same = ap (λ (k : Bench). k.flits) l.invariant.1.keeps in
-    let puts = l.invariant.1.prints in
-    (p.0, omega (arith, p.1), omega (arith, p.2, puts.place, puts.size))
+    let steps = c.in-Some.ensures.steps in
+    let cut = cut_off a.input.now _ _ _ n l.invariant.2 steps.1.0 (steps.1.1 ∙ l.invariant.1) in
+    let counted = flits_counted a.store.now s a.input.now n in
+    let short = lines_short a.store.now s a.input.now n in
+    let same = ap (λ (k : Bench). k.flits) l.invariant.0.keeps in
+    let puts = l.invariant.0.prints.puts in
+    (omega (arith, c.requires.0, cut.2), omega (arith, c.requires.1, puts.place, puts.size, cut.2))
 
-pub overflow_add-n : goal.overflow_add-n
-overflow_add-n c = omega arith
-
-pub loop-n-smaller : goal.loop-n-smaller
-loop-n-smaller c = omega arith
-
-pub loop-n-preserved : goal.loop-n-preserved
-loop-n-preserved c = let a = c.args in
-    let l = c.loop-n in
-    let p = c.print_flit-printed in
-    let t = c.loop-n-test.true in (
-      omega (arith, t),
-      goes_on a.store.now (from_here a.b a.hold.now) a.input.now a.out.now _ l.n l.kept l.hold l.bytes _ l.out _ _ _ l.invariant.1
-          (flit_is a.input.now l.n (l.n * 64) (l.n * 64 + 64 - l.n * 64) refl (omega arith)) p.ensures.kept_value p.ensures.hold_after p.ensures.puts,
-      p.auto.hold ∙ l.invariant.2,
-    )
-
-pub shape_of-hold : goal.shape_of-hold
-shape_of-hold c = let l = c.loop-n in
-    l.invariant.2
-
-pub shape_of-out : goal.shape_of-out
-shape_of-out c = let l = c.loop-n in
-    l.invariant.1.prints.size
+pub loop-flit-preserved : goal.loop-flit-preserved
+loop-flit-preserved c =
+    let a = c.args in
+    let l = c.loop-flit in
+    let p = c.print_flit-kept.ensures in
+    let steps = c.in-Some.ensures.steps in
+    let cut = cut_off a.input.now _ _ _ (length l.yielded) l.invariant.2 steps.1.0 (steps.1.1 ∙ l.invariant.1) in
+    let on = goes_on a.store.now (from_here a.b a.hold.now) a.input.now a.writer.now _ (length l.yielded) l.kept l.hold l.writer _ _ _ l.invariant.0 cut.0 p.kept_value p.hold_after p.appends in
+    rw length-append (on, steps.0 ∙ l.invariant.1, cut.1, cut.2)
 
 pub returns : goal.returns
-returns c = let a = c.args in
-    let l = c.loop-n in
-    let t = c.loop-n-test.false in
-    let e : l.n ≡ length a.input.now / 64 = omega (arith, t, l.invariant.0) in
-    let s = from_here a.b a.hold.now in
-    let at : ℕ → BenchSession = λ (m : ℕ). flits a.store.now s a.input.now m in record {
-      kept_value = l.invariant.1.keeps ∙ ap (λ (m : ℕ). (at m).kept) e;
-      hold_after = l.invariant.1.holds ∙ ap (λ (m : ℕ). (at m).hold) e;
-      puts = puts_as (ap (λ (m : ℕ). (at m).lines) e) l.invariant.1.prints;
+returns c =
+    let a = c.args in
+    let l = c.loop-flit in
+    let left = simp length-drop at (ap length l.invariant.2) in
+    let e : length l.yielded ≡ length a.input.now / 64 = omega (arith, c.in-None.ensures.steps, l.invariant.1, l.invariant.3, left) in
+    let at : ℕ → BenchSession = λ (n : ℕ). flits a.store.now (from_here a.b a.hold.now) a.input.now n in
+    record {
+      kept_value = l.invariant.0.keeps ∙ ap (λ (n : ℕ). (at n).kept) e;
+      hold_after = l.invariant.0.holds ∙ ap (λ (n : ℕ). (at n).hold) e;
+      appends = appends_as (ap (λ (n : ℕ). (at n).lines) e) l.invariant.0.prints;
     }

@@ -1,11 +1,11 @@
-use mathlib.Core.Path.{◌≡◌}
-use Prim.Native.Nat.{◌-◌, ◌≤◌}
-use lib.ListN.{length}
+-- The next flit is the one after those that came: the iterator has the input from there on.
+use Rattle.std.proofs.Common.{◌≡◌, ◌*◌, ◌≤◌, length, drop}
 use Rattle.bench_capture.proofs.Laws.{After, from_here}
 use Rattle.bench_capture.proofs.print_flits.Given as goal
 
-abbrev pub invariant-loop-n : goal.invariant-loop-n
-invariant-loop-n l = (l.n ≤ l.whole) × After l.store (from_here l.initial.kept l.initial.hold) l.input l.initial.out l.n l.kept l.hold l.bytes l.out × (length l.hold ≡ length l.initial.hold)
-
-abbrev pub decreases-loop-n : goal.decreases-loop-n
-decreases-loop-n l = l.whole - l.n
+abbrev pub invariant-loop-flit : goal.invariant-loop-flit
+invariant-loop-flit l =
+    After l.store (from_here l.initial.kept l.initial.hold) l.input l.initial.writer (length l.yielded) l.kept l.hold l.writer
+    × (l.flit-iterator.size ≡ 64)
+    × (l.flit-iterator.rest.now ≡ drop (length l.yielded * 64) l.input)
+    × (length l.yielded * 64 ≤ length l.input)

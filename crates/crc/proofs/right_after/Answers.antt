@@ -11,5 +11,5 @@ pub returns : goal.returns
 returns c = let held = c.args.held.now in
     let flit = c.args.flit.now in
     ap (λ (n : ℕ). eqb n 0)
-    (c.continued-left.ensures ∙ ap (λ (n : ℕ). continued n flit) c.continued-so_far.ensures ∙ sym (continued_append 0 held flit))
+    (c.continued.ensures ∙ ap (λ (n : ℕ). continued n flit) c.continued-so_far.ensures ∙ sym (continued_append 0 held flit))
     ∙ right_continued (held ++ flit)

@@ -1,134 +1,101 @@
 -- `drive_line::answer` meets its contract, command by command.
-use mathlib.Core.Path.{refl, ap, subst, ◌∙◌}
-use Prim.Native.Nat.{ℕ, ◌-◌}
-use native.Mathlib.Nat.{sub-zero}
-use native.Mathlib.Omega.{arith}
-use lib.ListN.{take, length-take}
+use Rattle.std.proofs.Common.{ap, refl, subst, arith, ℕ}
 use lib.Seq.{length-take-le}
 use Rattle.drive_script.specs.Script.{InRange, bytes_in}
-use Rattle.drive_script.specs.declared.Command.{Command}
-use Rattle.drive_line.specs.Lines.{kept_in, commanded, bad, accept_line, send_line, receive_line, fill_line, ticket_line}
-use Rattle.drive_line.proofs.Leaving.{apart, joined, leaves_did, leaves_alone, leaves_bad}
+use Rattle.drive_line.specs.Lines.{commanded, bad, send_line, ticket_line}
+use Rattle.drive_line.proofs.Leaving.{left_did}
 use Rattle.drive_line.proofs.answer.Goals as goal
 
 pub start-requires : goal.start-requires
 unfolding InRange
-start-requires c = let p = c.requires in
-    (p.1, subst (λ (x : Command). InRange x) c.in-Start.is p.3, p.4)
-
-pub slice_bounds-accept-end : goal.slice_bounds-accept-end
-unfolding InRange
-slice_bounds-accept-end c = let p = c.requires in
-    let h = subst (λ (x : Command). InRange x) c.in-Accept.is p.3 in
-    omega (arith, p.2)
-
-pub slice_bounds-send-end : goal.slice_bounds-send-end
-unfolding InRange
-slice_bounds-send-end c = let p = c.requires in
-    let h = subst (λ (x : Command). InRange x) c.in-Send.is p.3 in
-    omega (arith, p.2)
-
-pub send-requires : goal.send-requires
-unfolding InRange
-send-requires c = let p = c.requires in
-    let h = subst (λ (x : Command). InRange x) c.in-Send.is p.3 in
-    (p.0, p.1, omega (arith, p.2, length-take (c.in-Send.n - 0) c.args.bytes.now), p.4)
-
-pub slice_bounds-receive-end : goal.slice_bounds-receive-end
-unfolding InRange
-slice_bounds-receive-end c = let p = c.requires in
-    let h = subst (λ (x : Command). InRange x) c.in-Receive.is p.3 in
-    omega (arith, p.2)
+start-requires c = (subst InRange c.in-Start.is c.requires.0, c.requires.1)
 
 pub poke-requires : goal.poke-requires
 unfolding InRange
-poke-requires c = let p = c.requires in
-    let h = subst (λ (x : Command). InRange x) c.in-Poke.is p.3 in
-    (p.1, h, p.4)
-
-pub slice_bounds-fill-end : goal.slice_bounds-fill-end
-unfolding InRange
-slice_bounds-fill-end c = let p = c.requires in
-    let h = subst (λ (x : Command). InRange x) c.in-Fill.is p.3 in
-    omega (arith, p.2)
+poke-requires c = (subst InRange c.in-Poke.is c.requires.0, c.requires.1)
 
 pub lend-requires : goal.lend-requires
 unfolding InRange
-lend-requires c = let p = c.requires in
-    let h = subst (λ (x : Command). InRange x) c.in-Lend.is p.3 in
-    (p.1, h.0, h.1, p.4)
+lend-requires c =
+    let h = subst InRange c.in-Lend.is c.requires.0 in
+    (h.0, h.1, c.requires.1)
 
-pub returns-in-Bad : goal.returns-in-Bad
-unfolding commanded
-returns-in-Bad c = let a = c.args in
-    let k = kept_in a.side a.store.now a.hold.now in
-    let r = apart (leaves_did k a.bytes.now a.command _ (bad k) c.in-Bad.is refl
-    (leaves_bad c.requires.1 (c.bad.ensures.side_value, c.bad.ensures.puts))) in
-    record { leaves = r.0; puts = r.1 }
+pub shared_ref_as_front-accept : goal.shared_ref_as_front-accept
+unfolding InRange
+shared_ref_as_front-accept c = subst InRange c.in-Accept.is c.requires.0
+
+pub slice_bounds-send-end : goal.slice_bounds-send-end
+unfolding InRange
+slice_bounds-send-end c = subst InRange c.in-Send.is c.requires.0
+
+pub shared_ref_as_front-receive : goal.shared_ref_as_front-receive
+unfolding InRange
+shared_ref_as_front-receive c = subst InRange c.in-Receive.is c.requires.0
+
+pub shared_ref_as_front-fill : goal.shared_ref_as_front-fill
+unfolding InRange
+shared_ref_as_front-fill c = subst InRange c.in-Fill.is c.requires.0
 
 pub returns-in-Start : goal.returns-in-Start
-unfolding commanded
-returns-in-Start c = let a = c.args in
-    let r = apart (leaves_did (kept_in a.side a.store.now a.hold.now) a.bytes.now a.command _ _ c.in-Start.is refl (joined (c.start.ensures.leaves, c.start.ensures.puts))) in
-    record { leaves = r.0; puts = r.1 }
+unfolding commanded bytes_in
+returns-in-Start c =
+    let l = left_did c.args.end.now c.args.bytes.now c.in-Start.is refl (record { kept_after = c.start.ensures.kept_after; appends = c.start.ensures.appends }) in
+    record { kept_after = l.kept_after; appends = l.appends }
 
 pub returns-in-Accept : goal.returns-in-Accept
 unfolding commanded bytes_in
-returns-in-Accept c = let a = c.args in
-    let k = kept_in a.side a.store.now a.hold.now in
-    let told = c.in-Accept in
-    let r = apart (leaves_did k a.bytes.now a.command _ _ told.is (ap (λ (m : ℕ). accept_line k (take m a.bytes.now)) (sub-zero told.n)) (joined (c.accept.ensures.leaves, c.accept.ensures.puts))) in
-    record { leaves = r.0; puts = r.1 }
+returns-in-Accept c =
+    let l = left_did c.args.end.now c.args.bytes.now c.in-Accept.is refl (record { kept_after = c.accept.ensures.kept_after; appends = c.accept.ensures.appends }) in
+    record { kept_after = l.kept_after; appends = l.appends }
 
 pub returns-in-Send : goal.returns-in-Send
 unfolding commanded InRange
-returns-in-Send c = let a = c.args in
-    let p = c.requires in
-    let k = kept_in a.side a.store.now a.hold.now in
-    let told = c.in-Send in
-    let h = subst (λ (x : Command). InRange x) told.is p.3 in
-    let r = apart (leaves_did k a.bytes.now a.command _ _ told.is
-    (ap (λ (m : ℕ). send_line k m told.errors told.information) (length-take-le (told.n - 0) a.bytes.now (omega (arith, p.2)) ∙ sub-zero told.n)) (joined (c.send.ensures.leaves, c.send.ensures.puts))) in
-    record { leaves = r.0; puts = r.1 }
+returns-in-Send c =
+    let k = c.in-Send in
+    let size = length-take-le k.n c.args.bytes.now (omega (arith, subst InRange k.is c.requires.0)) in
+    let l =
+    left_did c.args.end.now c.args.bytes.now k.is (ap (λ (n : ℕ). send_line c.args.end.now n k.errors k.information) size)
+    (record { kept_after = c.send.ensures.kept_after; appends = c.send.ensures.appends }) in
+    record { kept_after = l.kept_after; appends = l.appends }
 
 pub returns-in-Receive : goal.returns-in-Receive
 unfolding commanded bytes_in
-returns-in-Receive c = let a = c.args in
-    let k = kept_in a.side a.store.now a.hold.now in
-    let told = c.in-Receive in
-    let r = apart (leaves_did k a.bytes.now a.command _ _ told.is (ap (λ (m : ℕ). receive_line k (take m a.bytes.now)) (sub-zero told.n)) (joined (c.receive.ensures.leaves, c.receive.ensures.puts))) in
-    record { leaves = r.0; puts = r.1 }
+returns-in-Receive c =
+    let l = left_did c.args.end.now c.args.bytes.now c.in-Receive.is refl (record { kept_after = c.receive.ensures.kept_after; appends = c.receive.ensures.appends }) in
+    record { kept_after = l.kept_after; appends = l.appends }
 
 pub returns-in-Poke : goal.returns-in-Poke
-unfolding commanded
-returns-in-Poke c = let a = c.args in
-    let r = apart (leaves_did (kept_in a.side a.store.now a.hold.now) a.bytes.now a.command _ _ c.in-Poke.is refl (joined (c.poke.ensures.leaves, c.poke.ensures.puts))) in
-    record { leaves = r.0; puts = r.1 }
+unfolding commanded bytes_in
+returns-in-Poke c =
+    let l = left_did c.args.end.now c.args.bytes.now c.in-Poke.is refl (record { kept_after = c.poke.ensures.kept_after; appends = c.poke.ensures.appends }) in
+    record { kept_after = l.kept_after; appends = l.appends }
 
 pub returns-in-Fill : goal.returns-in-Fill
 unfolding commanded bytes_in
-returns-in-Fill c = let a = c.args in
-    let k = kept_in a.side a.store.now a.hold.now in
-    let told = c.in-Fill in
-    let r = apart (leaves_did k a.bytes.now a.command _ _ told.is (ap (λ (m : ℕ). fill_line k told.offset (take m a.bytes.now)) (sub-zero told.n)) (joined (c.fill.ensures.leaves, c.fill.ensures.puts))) in
-    record { leaves = r.0; puts = r.1 }
+returns-in-Fill c =
+    let l = left_did c.args.end.now c.args.bytes.now c.in-Fill.is refl (record { kept_after = c.fill.ensures.kept_after; appends = c.fill.ensures.appends }) in
+    record { kept_after = l.kept_after; appends = l.appends }
 
 pub returns-in-Lend : goal.returns-in-Lend
-unfolding commanded
-returns-in-Lend c = let a = c.args in
-    let r = apart (leaves_did (kept_in a.side a.store.now a.hold.now) a.bytes.now a.command _ _ c.in-Lend.is refl (joined (c.lend.ensures.leaves, c.lend.ensures.puts))) in
-    record { leaves = r.0; puts = r.1 }
-
-pub returns-in-Ticket : goal.returns-in-Ticket
-unfolding commanded
-returns-in-Ticket c = let a = c.args in
-    let k = kept_in a.side a.store.now a.hold.now in
-    let r = apart (leaves_did k a.bytes.now a.command _ (record { kept = k; line = ticket_line a.side }) c.in-Ticket.is refl
-    (leaves_alone c.requires.1 (c.ticket.ensures.side_value, c.ticket.ensures.puts))) in
-    record { leaves = r.0; puts = r.1 }
+unfolding commanded bytes_in
+returns-in-Lend c =
+    let l = left_did c.args.end.now c.args.bytes.now c.in-Lend.is refl (record { kept_after = c.lend.ensures.kept_after; appends = c.lend.ensures.appends }) in
+    record { kept_after = l.kept_after; appends = l.appends }
 
 pub returns-in-Count : goal.returns-in-Count
-unfolding commanded
-returns-in-Count c = let a = c.args in
-    let r = apart (leaves_did (kept_in a.side a.store.now a.hold.now) a.bytes.now a.command _ _ c.in-Count.is refl (joined (c.count.ensures.leaves, c.count.ensures.puts))) in
-    record { leaves = r.0; puts = r.1 }
+unfolding commanded bytes_in
+returns-in-Count c =
+    let l = left_did c.args.end.now c.args.bytes.now c.in-Count.is refl (record { kept_after = c.count.ensures.kept_after; appends = c.count.ensures.appends }) in
+    record { kept_after = l.kept_after; appends = l.appends }
+
+pub returns-in-Bad : goal.returns-in-Bad
+unfolding commanded bad
+returns-in-Bad c =
+    let l = left_did c.args.end.now c.args.bytes.now {d = bad c.args.end.now} c.in-Bad.is refl (record { kept_after = refl; appends = c.bad.ensures }) in
+    record { kept_after = l.kept_after; appends = l.appends }
+
+pub returns-in-Ticket : goal.returns-in-Ticket
+unfolding commanded bad
+returns-in-Ticket c =
+    let l = left_did c.args.end.now c.args.bytes.now {d = record { kept = c.args.end.now; line = ticket_line c.args.end.now.side }} c.in-Ticket.is refl (record { kept_after = refl; appends = c.ticket.ensures }) in
+    record { kept_after = l.kept_after; appends = l.appends }

@@ -1,20 +1,22 @@
 -- `drive_line::count` meets its contract.
-use mathlib.Core.Path.{refl}
-use native.Mathlib.Omega.{arith}
-use lib.ListN.{take}
+use Rattle.std.proofs.Common.{ap, refl, ◌∙◌}
 use Rattle.drive_set.specs.Settings.{side_counted}
+use Rattle.drive_call.specs.Sides.{Kept}
+use Rattle.drive_call.proofs.Calls.{buffered_call, keeps}
 use Rattle.drive_line.specs.Lines.{count_line}
-use Rattle.drive_line.proofs.Leaving.{apart, joined, buffered_call, keeps, leaves_stated}
+use Rattle.drive_line.proofs.Leaving.{left_stated}
 use Rattle.drive_line.proofs.count.Goals as goal
 
-pub put_plain-requires : goal.put_plain-requires
+pub invariant_of-end : goal.invariant_of-end
 unfolding side_counted
-put_plain-requires c = let p = c.requires in
-    (buffered_call c.count-after.ensures p.0, omega arith, omega arith)
+invariant_of-end c = buffered_call c.count-end-inside.ensures c.end.invariant
 
 pub returns : goal.returns
 unfolding side_counted count_line
-returns c = let a = c.args in
-    let s = c.count-after in
-    let r = apart (leaves_stated refl (keeps s.result (side_counted a.side a.key a.n) a.store.now a.hold.now (take a.side.kept a.store.now) (take 576 a.hold.now) s.ensures refl refl) (joined (c.put_plain.ensures.leaves, c.put_plain.ensures.puts))) in
-    record { leaves = r.0; puts = r.1 }
+returns c =
+    let e = c.end.inside in
+    let same = keeps c.count-end-inside.result (side_counted e.side c.args.key c.args.n) e.store e.hold _ _ c.count-end-inside.ensures refl refl in
+    let l =
+    left_stated refl (same ∙ ap (λ (k : Kept). record { side = side_counted k.side c.args.key c.args.n; store = k.store; hold = k.hold }) c.end.view_is)
+    c.put_plain.ensures in
+    record { kept_after = l.kept_after; appends = l.appends }

@@ -1,19 +1,22 @@
 -- `drive_line::lend` meets its contract.
-use mathlib.Core.Path.{refl}
-use native.Mathlib.Omega.{arith}
-use lib.ListN.{take}
+use Rattle.std.proofs.Common.{ap, refl, ◌∙◌, arith}
 use Rattle.drive_set.specs.Settings.{side_lent}
+use Rattle.drive_call.specs.Sides.{Kept}
+use Rattle.drive_call.proofs.Calls.{keeps}
 use Rattle.drive_line.specs.Lines.{lend_line}
-use Rattle.drive_line.proofs.Leaving.{apart, joined, buffered_lent, keeps, leaves_stated}
+use Rattle.drive_line.proofs.Leaving.{buffered_lent, left_stated}
 use Rattle.drive_line.proofs.lend.Goals as goal
 
-pub put_plain-requires : goal.put_plain-requires
-put_plain-requires c = let p = c.requires in
-    (buffered_lent c.lend-after.ensures p.1 p.2 p.0, omega arith, p.3)
+pub invariant_of-end : goal.invariant_of-end
+unfolding side_lent
+invariant_of-end c = buffered_lent c.lend-end-inside.ensures (omega (arith, c.requires.0, c.end.told)) (omega (arith, c.requires.1, c.end.told)) c.end.invariant
 
 pub returns : goal.returns
 unfolding side_lent lend_line
-returns c = let a = c.args in
-    let s = c.lend-after in
-    let r = apart (leaves_stated refl (keeps s.result (side_lent a.side a.lent a.held) a.store.now a.hold.now (take a.side.kept a.store.now) (take 576 a.hold.now) s.ensures refl refl) (joined (c.put_plain.ensures.leaves, c.put_plain.ensures.puts))) in
-    record { leaves = r.0; puts = r.1 }
+returns c =
+    let e = c.end.inside in
+    let same = keeps c.lend-end-inside.result (side_lent e.side c.args.lent c.args.held) e.store e.hold _ _ c.lend-end-inside.ensures refl refl in
+    let l =
+    left_stated refl (same ∙ ap (λ (k : Kept). record { side = side_lent k.side c.args.lent c.args.held; store = k.store; hold = k.hold }) c.end.view_is)
+    c.put_plain.ensures in
+    record { kept_after = l.kept_after; appends = l.appends }

@@ -1,49 +1,35 @@
 -- `drive_line::send` meets its contract.
-use mathlib.Core.List.{List}
-use mathlib.Core.Path.{refl, ap, ap₂, subst, sym}
-use Prim.Native.Nat.{ℕ, ◌*◌, ◌≤◌}
-use native.Mathlib.Omega.{arith}
-use lib.ListN.{length, take}
+use Rattle.std.proofs.Common.{◌*◌, ◌≤◌, length, sym, subst, arith}
+use mathlib.Core.Path.{ap₂}
+use Rattle.text.proofs.Laws.{appends_more}
 use Rattle.send.specs.Send.{flits_written}
-use Rattle.drive_call.specs.Sides.{sends}
-use Rattle.drive_call.specs.declared.SideSent.{SideSent}
+use Rattle.std.specs.Prelude.{Result}
+use Rattle.flit_number.specs.declared.FlitCount.{FlitCount}
+use Rattle.end_state.specs.declared.Refusal.{Refusal}
 use Rattle.drive_head.specs.Heads.{send_head}
 use Rattle.drive_head.proofs.Laws.{send_head_short}
-use Rattle.drive_line.specs.Lines.{send_line}
-use Rattle.drive_line.proofs.Leaving.{apart, leaves_side, buffered_call, keeps, leaves_stated}
+use Rattle.drive_line.specs.Lines.{stated, send_line}
+use Rattle.drive_line.proofs.Leaving.{left_stated}
 use Rattle.drive_line.proofs.Lengths.{sent_inside}
 use Rattle.drive_line.proofs.send.Goals as goal
 
-pub put_send-head-requires : goal.put_send-head-requires
-put_send-head-requires c = let a = c.args in
-    let p = c.requires in
-    let s = c.send-sent in
-    let store = take a.side.kept a.store.now in
-    let inside : flits_written s.result.answer * 64 ≤ length a.output.now =
-    subst (λ (r : SideSent). flits_written r.answer * 64 ≤ length a.output.now) (sym s.ensures.value) (sent_inside a.side store (length a.output.now)).0 in
-    (omega (arith, s.auto.output, p.2), omega (arith, s.auto.output), omega (arith, p.3))
+pub put_send-requires : goal.put_send-requires
+put_send-requires c =
+    let s = c.send-answer in
+    let n = length c.args.output.now in
+    let inside = subst (λ (a : Result FlitCount Refusal). flits_written a * 64 ≤ n) (sym s.ensures.value) (sent_inside c.args.end.now n).0 in
+    (omega (arith, s.auto.output, c.requires.0), omega (arith, s.auto.output), omega (arith, c.requires.1))
 
-pub put_side-requires : goal.put_side-requires
-unfolding sends
-put_side-requires c = let a = c.args in
-    let p = c.requires in
-    let s = c.send-sent in
-    let h = c.put_send-head.ensures in
-    let few : flits_written s.result.answer ≤ 10 =
-    subst (λ (r : SideSent). flits_written r.answer ≤ 10) (sym s.ensures.value) (sent_inside a.side (take a.side.kept a.store.now) (length a.output.now)).1 in (
-      buffered_call (ap (λ (r : SideSent). r.side) s.ensures.value) p.1,
-      omega (arith, p.2, p.3, h.place, h.size, s.auto.output, send_head_short s.result.answer s.new.output (omega (arith, few))),
-    )
+pub put_state-requires : goal.put_state-requires
+put_state-requires c =
+    let s = c.send-answer in
+    let h = c.put_send.ensures.puts in
+    let few = subst (λ (a : Result FlitCount Refusal). flits_written a ≤ 10) (sym s.ensures.value) (sent_inside c.args.end.now (length c.args.output.now)).1 in
+    omega (arith, c.requires.0, c.requires.1, h.place, h.size, s.auto.output, send_head_short s.result s.new.output (omega (arith, few)))
 
 pub returns : goal.returns
-unfolding sends send_line
-returns c = let a = c.args in
-    let s = c.send-sent in
-    let e = s.ensures.value in
-    let store = take a.side.kept a.store.now in
-    let r = apart
-    (leaves_stated
-    (ap₂ (λ (r : SideSent) (l : List ℕ). send_head r.answer l) e s.ensures.output_after)
-    (keeps s.result.side (sends a.side store (length a.output.now)).side a.store.now a.hold.now store (take 576 a.hold.now) (ap (λ (r : SideSent). r.side) e) refl refl)
-    (leaves_side c.put_send-head.ensures (c.put_side.ensures.leaves, c.put_side.ensures.puts))) in
-    record { leaves = r.0; puts = r.1 }
+unfolding stated send_line
+returns c =
+    let s = c.send-answer.ensures in
+    let l = left_stated (ap₂ send_head s.value s.output_after) s.kept_after (appends_more c.put_send.ensures c.put_state.ensures) in
+    record { kept_after = l.kept_after; appends = l.appends }

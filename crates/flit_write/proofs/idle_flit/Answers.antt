@@ -6,17 +6,11 @@ use lib.ListN.{replicate}
 use Rattle.crc.specs.Seal.{sealed}
 use Rattle.flit_read.specs.Bytes.{bytes}
 use Rattle.flit_write.specs.Flits.{idle_flit}
-use Rattle.flit_read.specs.Fields.{data_stalled}
 use native.Mathlib.Omega.{arith}
-use Rattle.flit_write.proofs.Written.{mark_le}
+use Rattle.flit_write.proofs.Written.{mark_is}
 use Rattle.flit_write.proofs.idle_flit.Goals as goal
-
-pub overflow_add-c-2 : goal.overflow_add-c-2
-overflow_add-c-2 c = omega (arith, mark_le data_stalled c.args.stalled)
-
-pub overflow_add-c-3 : goal.overflow_add-c-3
-overflow_add-c-3 c = omega (arith, mark_le data_stalled c.args.stalled)
 
 pub returns : goal.returns
 unfolding idle_flit
-returns c = c.seal_with.ensures ∙ ap sealed (c.with_content-flit.ensures ∙ ap (λ (x : ℕ). replicate 56 0 ++ bytes 8 x) (omega arith))
+returns c = c.seal.ensures
+    ∙ ap sealed (c.with_content-flit.ensures ∙ ap (λ (x : ℕ). replicate 56 0 ++ bytes 8 x) (omega (arith, mark_is 19 c.args.stalled)))

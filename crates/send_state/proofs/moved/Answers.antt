@@ -1,23 +1,23 @@
 -- `send_state::moved` meets its contract, case by case.
-use mathlib.Core.Path.{sym, ap, ap₂, ◌∙◌}
-use Prim.Native.Nat.{ℕ, ◌<◌, ◌≤◌}
+use Prim.Native.Nat.{◌<◌, ◌≤◌}
 use native.Mathlib.Omega.{arith}
+use borrow.Author.Tests.{lt-ltb, le-ltb}
 use Rattle.end_state.specs.Refusals.{cursor_at}
-use Rattle.end_state.specs.Update.{with_untold}
-use Rattle.end_state.specs.declared.End.{End}
-use Rattle.send_state.proofs.Cases.{moved_replays, moved_idle, moved_unit}
+use Rattle.send_state.specs.Moves.{moved}
 use Rattle.send_state.proofs.moved.Goals as goal
 
 pub returns-then-e : goal.returns-then-e
-returns-then-e c = sym (moved_replays c.args.e c.args.run.0 c.if-e.true)
+unfolding moved
+returns-then-e c = simp c.if-e.true
 
 pub returns-then-e-cursor : goal.returns-then-e-cursor
-returns-then-e-cursor c = let a = c.args in
-    let w : a.e.held.0 ≤ cursor_at a.e = omega (arith, c.if-e-cursor.true, c.flits_between-cursor.ensures) in
-    ap (λ (n : ℕ). with_untold n a.e) c.fallen-left.ensures ∙ sym (moved_idle a.e a.run.0 c.if-e.false w)
+unfolding moved
+returns-then-e-cursor c =
+    let w : c.args.e.held.0 ≤ cursor_at c.args.e = omega (arith, c.flits_between-cursor.ensures) in
+    simp (c.if-e.false, le-ltb _ _ w, ← c.fallen.ensures)
 
 pub returns : goal.returns
-returns c = let a = c.args in
-    let w : cursor_at a.e < a.e.held.0 = omega (arith, c.if-e-cursor.false, c.flits_between-cursor.ensures) in
-    ap₂ (λ (n : ℕ) (e : End). with_untold n e) c.fallen_past-left.ensures c.past_unit-next.ensures
-    ∙ sym (moved_unit a.e a.run.0 c.if-e.false w)
+unfolding moved
+returns c =
+    let w : cursor_at c.args.e < c.args.e.held.0 = omega (arith, c.flits_between-cursor.ensures) in
+    simp (c.if-e.false, lt-ltb _ _ w, ← c.fallen_past.ensures, c.past_unit.ensures)

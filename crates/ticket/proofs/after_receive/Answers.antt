@@ -4,7 +4,7 @@ use Prim.Native.Nat.{◌+◌}
 use native.Mathlib.Omega.{arith}
 use Rattle.receive_answer.specs.declared.Answer.{Answer}
 use Rattle.ticket.specs.Ticket.{TicketCall, adds, counts}
-use Rattle.ticket.proofs.Laws.{after_is, unchanged_is}
+use Rattle.ticket.proofs.Laws.{after_is, unchanged_is, uncounted}
 use Rattle.ticket.proofs.after_receive.Goals as goal
 
 pub returns-in-Delivered : goal.returns-in-Delivered
@@ -29,45 +29,8 @@ unfolding adds
 returns-in-Down c = let a = c.args in
     after_is a.t (TicketCall.receives a.answer) (counts 0 0 0 0 1) _ (ap (λ (a : Answer). adds (TicketCall.receives a)) c.in-Down.is) (omega arith) (omega arith) (omega arith) (omega arith) (omega arith)
 
--- the answers that count nothing
-pub returns-in-Refused : goal.returns-in-Refused
-unfolding adds
-returns-in-Refused c =
-    let a = c.args in
-    unchanged_is a.t (TicketCall.receives a.answer) (omega arith) (omega arith) (omega arith) (omega arith) (omega arith) (ap (λ (a : Answer). adds (TicketCall.receives a)) c.in-Refused.is)
-
-pub returns-in-Held : goal.returns-in-Held
-unfolding adds
-returns-in-Held c =
-    let a = c.args in
-    unchanged_is a.t (TicketCall.receives a.answer) (omega arith) (omega arith) (omega arith) (omega arith) (omega arith) (ap (λ (a : Answer). adds (TicketCall.receives a)) c.in-Held.is)
-
-pub returns-in-Skipped : goal.returns-in-Skipped
-unfolding adds
-returns-in-Skipped c =
-    let a = c.args in
-    unchanged_is a.t (TicketCall.receives a.answer) (omega arith) (omega arith) (omega arith) (omega arith) (omega arith) (ap (λ (a : Answer). adds (TicketCall.receives a)) c.in-Skipped.is)
-
-pub returns-in-Idle : goal.returns-in-Idle
-unfolding adds
-returns-in-Idle c =
-    let a = c.args in
-    unchanged_is a.t (TicketCall.receives a.answer) (omega arith) (omega arith) (omega arith) (omega arith) (omega arith) (ap (λ (a : Answer). adds (TicketCall.receives a)) c.in-Idle.is)
-
-pub returns-in-Replayed : goal.returns-in-Replayed
-unfolding adds
-returns-in-Replayed c =
-    let a = c.args in
-    unchanged_is a.t (TicketCall.receives a.answer) (omega arith) (omega arith) (omega arith) (omega arith) (omega arith) (ap (λ (a : Answer). adds (TicketCall.receives a)) c.in-Replayed.is)
-
-pub returns-in-Ahead : goal.returns-in-Ahead
-unfolding adds
-returns-in-Ahead c =
-    let a = c.args in
-    unchanged_is a.t (TicketCall.receives a.answer) (omega arith) (omega arith) (omega arith) (omega arith) (omega arith) (ap (λ (a : Answer). adds (TicketCall.receives a)) c.in-Ahead.is)
-
-pub returns-in-Discarded : goal.returns-in-Discarded
-unfolding adds
-returns-in-Discarded c =
-    let a = c.args in
-    unchanged_is a.t (TicketCall.receives a.answer) (omega arith) (omega arith) (omega arith) (omega arith) (omega arith) (ap (λ (a : Answer). adds (TicketCall.receives a)) c.in-Discarded.is)
+pub returns-in_default : goal.returns-in_default
+returns-in_default c =
+    let d = c.in_default in
+    unchanged_is c.args.t (TicketCall.receives c.args.answer) (omega arith) (omega arith) (omega arith) (omega arith) (omega arith)
+    (uncounted c.args.answer d.not-Delivered d.not-Damaged d.not-Duplicate d.not-Down)

@@ -8,6 +8,6 @@ returns c =
     let a = c.args in
     let k = c.receive-received.ensures in record {
       answer = k.value;
-      ticket = c.after_received.ensures ∙ ap (received_counts a.t.now) k.value ∙ receive_counts a.t.now a.e a.store.now a.hold.now a.flit.now;
+      ticket = c.after_receive.ensures ∙ ap (received_counts a.t.now) k.value ∙ receive_counts a.t.now a.e a.store.now a.hold.now a.flit.now;
       held = k.hold_after;
     }

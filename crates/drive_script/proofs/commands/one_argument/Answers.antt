@@ -1,33 +1,67 @@
 -- `drive_script::commands::one_argument` meets its contract, word by word.
-use mathlib.Core.Bool.{cond}
-use mathlib.Core.List.{List, [], ◌∷◌}
-use mathlib.Core.Path.{ap, sym, ◌∙◌}
-use Prim.Native.Nat.{ℕ}
-use Rattle.drive_token.specs.Tokens.{over}
+use Rattle.std.proofs.Common.{ap, sym, ◌∙◌, ℕ, Some, length}
+use Rattle.std.proofs.lemmas.Option.{cond_some}
+use Rattle.drive_token.specs.Tokens.{is_bytes, pairs}
+use Rattle.drive_token.proofs.Cuts.{cond_none}
+use Rattle.drive_token.proofs.Figures.{over_none}
 use Rattle.drive_script.specs.declared.Command.TheVariants as command
-use Rattle.drive_script.specs.Script.{start_command, accept_command, receive_command, command_of}
-use Rattle.drive_script.proofs.Lines.{start_none, bad_none, one_start, one_bytes, one_bad, bytes_some, carries, carries_none}
+use Rattle.drive_script.specs.Script.{accept_command, receive_command, command_of}
+use Rattle.drive_script.proofs.Lines.{start_none, none_carried, accept_some, receive_some}
 use Rattle.drive_script.proofs.commands.one_argument.Goals as goal
 
-pub returns-then-is : goal.returns-then-is
-returns-then-is c = let a = c.args in
-    let t = sym c.is.ensures ∙ c.if-is.true in
-    let e = one_start a.op.now a.a.now t in
-    record { value = c.start.ensures ∙ sym e; bytes_after = carries_none (command_of a.op.now (a.a.now ∷ [])) (start_command a.a.now) a.a.now a.bytes.now e (start_none a.a.now a.a.now) }
+pub returns-then-is-clause-bytes_after : goal.returns-then-is-clause-bytes_after
+unfolding command_of
+returns-then-is-clause-bytes_after c = simp (sym c.is.ensures ∙ c.if-is.true, start_none, over_none)
 
-pub returns-then-accepting-is : goal.returns-then-accepting-is
-returns-then-accepting-is c = let a = c.args in
-    let s = sym c.is.ensures ∙ c.if-is.false in
-    let p = c.is-accepting in
-    let q = c.is-2 in
-    let w = c.with_bytes in
-    let e = one_bytes a.op.now a.a.now p.result q.result p.ensures q.ensures s c.if-accepting-is.true in
-    let d = cond p.result (accept_command a.a.now) (receive_command a.a.now) in record { value = w.ensures.value ∙ sym e; bytes_after = carries (command_of a.op.now (a.a.now ∷ [])) d a.a.now a.bytes.now _ e (w.ensures.bytes_after ∙ sym (ap (λ (l : List ℕ). over l a.bytes.now) (bytes_some p.result a.a.now))) }
+pub returns-in_err-n-clause-value : goal.returns-in_err-n-clause-value
+unfolding command_of accept_command
+returns-in_err-n-clause-value c = let t = c.args.a.now in
+    let k = cond_none (is_bytes t) (length (pairs t)) (sym c.take_hex.ensures.count ∙ c.in_err-n.was) in
+    simp (sym c.is.ensures ∙ c.if-is.false, sym c.is-else-is.ensures ∙ c.if-is-2.true, k) c.from_residual.ensures
 
-pub returns : goal.returns
-returns c = let a = c.args in
-    let s = sym c.is.ensures ∙ c.if-is.false in
-    let p = c.is-accepting in
-    let q = c.is-2 in
-    let e = one_bad a.op.now a.a.now p.result q.result p.ensures q.ensures s c.if-accepting-is.false in
-    record { value = sym e; bytes_after = carries_none (command_of a.op.now (a.a.now ∷ [])) command.Bad a.a.now a.bytes.now e (bad_none a.a.now) }
+pub returns-in_err-n-clause-bytes_after : goal.returns-in_err-n-clause-bytes_after
+unfolding command_of
+returns-in_err-n-clause-bytes_after c =
+    simp (sym c.is.ensures ∙ c.if-is.false, sym c.is-else-is.ensures ∙ c.if-is-2.true, accept_some) c.take_hex.ensures.bytes_after
+
+pub returns-in_ok-n-clause-value : goal.returns-in_ok-n-clause-value
+unfolding command_of accept_command
+returns-in_ok-n-clause-value c = let t = c.args.a.now in
+    let k = cond_some (is_bytes t) (length (pairs t)) c.in_ok-n.n (sym c.take_hex.ensures.count ∙ c.in_ok-n.was) in
+    simp (sym c.is.ensures ∙ c.if-is.false, sym c.is-else-is.ensures ∙ c.if-is-2.true, k.0) (ap (λ (n : ℕ). Some (command.Accept n)) (sym k.1))
+
+pub returns-in_ok-n-clause-bytes_after : goal.returns-in_ok-n-clause-bytes_after
+unfolding command_of
+returns-in_ok-n-clause-bytes_after c =
+    simp (sym c.is.ensures ∙ c.if-is.false, sym c.is-else-is.ensures ∙ c.if-is-2.true, accept_some) c.take_hex.ensures.bytes_after
+
+pub returns-in_err-n-2-clause-value : goal.returns-in_err-n-2-clause-value
+unfolding command_of receive_command
+returns-in_err-n-2-clause-value c = let t = c.args.a.now in
+    let k = cond_none (is_bytes t) (length (pairs t)) (sym c.take_hex-then-is-3.ensures.count ∙ c.in_err-n-2.was) in
+    simp (sym c.is.ensures ∙ c.if-is.false, sym c.is-else-is.ensures ∙ c.if-is-2.false, sym c.is-else-is-2.ensures ∙ c.if-is-3.true, k)
+    c.from_residual-in_err-n-2.ensures
+
+pub returns-in_err-n-2-clause-bytes_after : goal.returns-in_err-n-2-clause-bytes_after
+unfolding command_of
+returns-in_err-n-2-clause-bytes_after c =
+    simp (sym c.is.ensures ∙ c.if-is.false, sym c.is-else-is.ensures ∙ c.if-is-2.false, sym c.is-else-is-2.ensures ∙ c.if-is-3.true, receive_some)
+    c.take_hex-then-is-3.ensures.bytes_after
+
+pub returns-in_ok-n-2-clause-value : goal.returns-in_ok-n-2-clause-value
+unfolding command_of receive_command
+returns-in_ok-n-2-clause-value c = let t = c.args.a.now in
+    let k = cond_some (is_bytes t) (length (pairs t)) c.in_ok-n-2.n (sym c.take_hex-then-is-3.ensures.count ∙ c.in_ok-n-2.was) in
+    simp (sym c.is.ensures ∙ c.if-is.false, sym c.is-else-is.ensures ∙ c.if-is-2.false, sym c.is-else-is-2.ensures ∙ c.if-is-3.true, k.0)
+    (ap (λ (n : ℕ). Some (command.Receive n)) (sym k.1))
+
+pub returns-in_ok-n-2-clause-bytes_after : goal.returns-in_ok-n-2-clause-bytes_after
+unfolding command_of
+returns-in_ok-n-2-clause-bytes_after c =
+    simp (sym c.is.ensures ∙ c.if-is.false, sym c.is-else-is.ensures ∙ c.if-is-2.false, sym c.is-else-is-2.ensures ∙ c.if-is-3.true, receive_some)
+    c.take_hex-then-is-3.ensures.bytes_after
+
+pub returns-else-is-3-clause-bytes_after : goal.returns-else-is-3-clause-bytes_after
+unfolding command_of
+returns-else-is-3-clause-bytes_after c =
+    simp (sym c.is.ensures ∙ c.if-is.false, sym c.is-else-is.ensures ∙ c.if-is-2.false, sym c.is-else-is-2.ensures ∙ c.if-is-3.false, none_carried, over_none)

@@ -1,5 +1,5 @@
 -- `drive_token::digits::number` meets its contract: the rest of the digits goes on with the number so far.
-use mathlib.Core.Bool.{true, false, ◌&&◌}
+use mathlib.Core.Bool.{◌&&◌}
 use mathlib.Core.Path.{◌≡◌, refl, ap, sym, ◌∙◌}
 use Prim.Native.Nat.{suc, ◌+◌, ◌-◌, ◌*◌, ◌<◌}
 use native.Mathlib.Numerals.{add-one}
@@ -7,70 +7,57 @@ use native.Mathlib.Omega.{arith}
 use lib.Dec.{leb}
 use lib.ListN.{length, drop, get_or, drop_of_length-le}
 use lib.Seq.{drop-cons}
-use borrow.Author.Tests.{not-true, not-false, leb-true}
-use Rattle.end_state.proofs.Tests.{and_l, and_r, cond_true, cond_false}
-use Rattle.drive_token.specs.Tokens.{is_digit, all_digits, value_from, is_number, value as value_of}
+use borrow.Author.Tests.{leb-true}
+use Rattle.std.proofs.Common.{Some}
+use Rattle.std.proofs.lemmas.Option.{cond_some}
+use Rattle.end_state.proofs.Tests.{and_l, and_r}
+use Rattle.drive_token.specs.Tokens.{is_digit, all_digits, value_from}
+use Rattle.drive_token.proofs.Cuts.{cond_none}
 use Rattle.drive_token.proofs.Figures.{no_number, stops, digits_next, value_next, value_start, whole_number, value_end}
 use Rattle.drive_token.proofs.digits.number.Goals as goal
 
-pub returns-then-token-eq0 : goal.returns-then-token-eq0
-returns-then-token-eq0 c = let a = c.args in
-    let e = no_number a.max a.token.now c.if-token-eq0.true in
-    record { ok_value = sym e; value_value = sym (cond_false (is_number a.max a.token.now) (value_of a.token.now) 0 e); value_le_max = omega arith }
+pub returns-then-is_empty-clause-value : goal.returns-then-is_empty-clause-value
+returns-then-is_empty-clause-value c = let t = c.args.token.now in
+    let z : length t ≡ 0 = grind arith in
+    simp (no_number c.args.max t z)
 
-pub loop-i-init : goal.loop-i-init
-loop-i-init c = (omega arith, omega arith, refl, value_start _)
+pub loop-c-init : goal.loop-c-init
+loop-c-init c = record { at_most = omega arith; digits = refl; so_far = value_start _ }
 
-pub bounds-token-i : goal.bounds-token-i
-bounds-token-i c = omega arith
-
-pub returns-then-not-next : goal.returns-then-not-next
-returns-then-not-next c = let a = c.args in
-    let l = c.loop-i in
+pub returns-in_err-value-clause-value : goal.returns-in_err-value-clause-value
+returns-in_err-value-clause-value c = let a = c.args in
+    let l = c.loop-c in
     let t = a.token.now in
-    let h : l.i < length t = omega arith in
-    let d = drop-cons t l.i 0 h in
-    let e : is_number a.max t ≡ false =
-    stops a.max l.value (get_or t l.i 0) t (drop (suc l.i) t) (l.invariant.2 ∙ ap all_digits d)
-    (l.invariant.3 ∙ ap (value_from l.value) d)
-    (sym c.with_digit-next.ensures.ok_value ∙ not-true c.with_digit-next.result.ok c.if-not-next.true)
+    let h : l.c-index < length t = omega arith in
+    let d = drop-cons t l.c-index 0 h in
+    let e =
+    stops a.max l.value (get_or t l.c-index 0) t (drop (suc l.c-index) t) (l.invariant.digits ∙ ap all_digits d)
+    (l.invariant.so_far ∙ ap (value_from l.value) d)
+    (cond_none _ _ (sym c.in_err-value.ensures))
     in
-    record { ok_value = sym e; value_value = sym (cond_false (is_number a.max t) (value_of t) 0 e); value_le_max = omega arith }
+    rw e c.from_residual.ensures
 
-pub overflow_add-i : goal.overflow_add-i
-overflow_add-i c = omega arith
-
-pub loop-i-smaller : goal.loop-i-smaller
-loop-i-smaller c = omega arith
-
-pub loop-i-preserved : goal.loop-i-preserved
-loop-i-preserved c = let a = c.args in
-    let l = c.loop-i in
+pub loop-c-preserved : goal.loop-c-preserved
+loop-c-preserved c = let a = c.args in
+    let l = c.loop-c in
     let t = a.token.now in
-    let x = get_or t l.i 0 in
-    let h : l.i < length t = omega arith in
-    let d = drop-cons t l.i 0 h in
+    let x = get_or t l.c-index 0 in
+    let h : l.c-index < length t = omega arith in
+    let d = drop-cons t l.c-index 0 h in
     let next = l.value * 10 + (x - 48) in
-    let ok : (is_digit x && leb next a.max) ≡ true =
-    sym c.with_digit-next.ensures.ok_value ∙ not-false c.with_digit-next.result.ok c.if-not-next.false
-    in
-    let v : c.with_digit-next.result.value ≡ next =
-    c.with_digit-next.ensures.value_value ∙ cond_true (is_digit x && leb next a.max) next 0 ok
-    in (
-      omega arith,
-      omega (arith, v, leb-true next a.max (and_r (is_digit x) (leb next a.max) ok)),
-      l.invariant.2 ∙ ap all_digits d ∙ rw add-one (digits_next x (drop (suc l.i) t) (and_l (is_digit x) (leb next a.max) ok)),
-      l.invariant.3 ∙ ap (value_from l.value) d ∙ rw (add-one, v) (value_next l.value x (drop (suc l.i) t)),
-    )
+    let s = cond_some (is_digit x && leb next a.max) next c.in_ok-value.value (sym c.in_ok-value.ensures) in
+    record {
+      at_most = omega (arith, s.1, leb-true next a.max (and_r (is_digit x) (leb next a.max) s.0));
+      digits = l.invariant.digits ∙ ap all_digits d ∙ rw add-one (digits_next x (drop (suc l.c-index) t) (and_l (is_digit x) (leb next a.max) s.0));
+      so_far = l.invariant.so_far ∙ ap (value_from l.value) d ∙ rw (add-one, sym s.1) (value_next l.value x (drop (suc l.c-index) t));
+    }
 
-pub returns : goal.returns
-returns c = let a = c.args in
-    let l = c.loop-i in
+pub returns-clause-value : goal.returns-clause-value
+returns-clause-value c = let a = c.args in
+    let l = c.loop-c in
     let t = a.token.now in
-    let some : 0 < length t = omega arith in
-    let d = drop_of_length-le t {i = l.i} (omega arith) in
-    let v = l.invariant.3 ∙ ap (value_from l.value) d in
-    let e : is_number a.max t ≡ true =
-    whole_number a.max l.value t some l.invariant.1 (l.invariant.2 ∙ ap all_digits d) v
-    in
-    record { ok_value = sym e; value_value = sym (cond_true (is_number a.max t) (value_of t) 0 e ∙ v ∙ value_end l.value); value_le_max = l.invariant.1 }
+    let some : 0 < length t = grind arith in
+    let d = drop_of_length-le t {i = l.c-index} (omega arith) in
+    let v = l.invariant.so_far ∙ ap (value_from l.value) d in
+    let e = whole_number a.max l.value t some l.invariant.at_most (l.invariant.digits ∙ ap all_digits d) v in
+    rw e (ap Some (sym (v ∙ value_end l.value)))

@@ -5,5 +5,4 @@ use Rattle.end_state.proofs.walk.cut_units.Goals as goal
 
 pub walk_on-met-requires : goal.walk_on-met-requires
 unfolding walk_over
-walk_on-met-requires c = let p = c.requires in
-    (p.0, p.1, p.2, omega arith, omega (arith, p.3, p.4), c.begun.ensures)
+walk_on-met-requires c = (omega arith, omega arith, c.begun.ensures)

@@ -8,4 +8,4 @@ returns-then-w-gt0 c = simp (lt-ltb _ _ c.if-w-gt0.true)
 
 pub returns : goal.returns
 unfolding passed
-returns c = simp (le-ltb _ _ c.if-w-gt0.false, ← c.content.ensures, ← c.run_length-run.ensures, ← c.acceptable-acceptable.ensures)
+returns c = simp (le-ltb _ _ c.if-w-gt0.false, ← c.content.ensures, ← c.run_length-run.ensures, ← c.acceptable.ensures)

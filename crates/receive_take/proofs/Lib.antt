@@ -1,2 +1,0 @@
-pub mod Newest
-pub mod Steps
