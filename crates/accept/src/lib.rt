@@ -1,4 +1,4 @@
-// Accept takes one unit from the transaction layer: its data flits, then its control flit.
+// Accept takes one unit from the transaction layer: its data flits, then its control flit. The buffers come in apart, as callers lend them.
 
 #![tactic(auto)]
 

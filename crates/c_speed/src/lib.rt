@@ -102,6 +102,7 @@ fn state_of(s: &[u64; 16]) -> End {
     }
 }
 
+// The last 16 bits, so no From.
 fn number(x: u64) -> SequenceNumber {
     SequenceNumber((x % 65536) as u16)
 }

@@ -29,14 +29,13 @@ pub fn right_after(held: &[u8], flit: &[u8]) -> bool
 pub fn flit_right(s: &[u8], at: usize) -> bool
     ensures { result ≡ flit_right_of s.now at }
 {
-    if s.len() < 64 {
+    let Some(rest) = s.get(at..) else {
         return false;
-    }
-    if s.len() - 64 < at {
+    };
+    let Some(flit) = rest.get(..64) else {
         return false;
-    }
-    let end = at + 64;
-    right(&s[at..end])
+    };
+    right(flit)
 }
 
 // Makes a unit right: its last 36 bits become its check. A slice under five bytes has no room for one and stays.
@@ -77,7 +76,7 @@ fn step(r: u64, b: u8) -> u64
     (r >> 8) ^ TABLE[i] ^ ((b as u64) << 28)
 }
 
-// Writes a check at a unit's last 36 bits. The byte where it begins keeps its low half.
+// Writes a check at a unit's last 36 bits. The byte where it begins keeps its low half, so no `to_le_bytes` lays them down.
 fn put_check(unit: &mut [u8], check: u64)
     requires { 5 ≤ length unit.old }
     ensures { unit.new ≡ with_check unit.old check }

@@ -27,7 +27,7 @@ fn has_argument<R: Env>(rt: &R) -> bool {
     !matches!(rt.arg(1, &mut word), Err(FillError::NotPresent))
 }
 
-// The last line is printed unless a read or a write failed.
+// The last line is printed unless a read or a write failed. The handle is shared and the input is read, so they go in apart, in bench too.
 fn drive<R: Print + Eprint, S: Read>(rt: &R, stdin: &mut S) -> Result<(), Failed> {
     let mut pair = drive_session::begin();
     let mut input = [0u8; 65536];

@@ -92,7 +92,7 @@ impl<const STORE: usize, const HOLD: usize> BufferedEnd<STORE, HOLD> {
         received.answer
     }
 
-    // Writes bytes into the store, if all of them are inside it, and says whether they are.
+    // Writes bytes into the store, if all of them are inside it, and says whether they are. There is one way not to be, so it needs no error.
     pub fn fill(&mut self, offset: u64, bytes: &[u8]) -> bool
         ensures value { result ≡ (fills self.old offset bytes.now).answer }
         ensures kept_after { self.new ≡ (fills self.old offset bytes.now).kept }

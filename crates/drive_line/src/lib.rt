@@ -1,4 +1,6 @@
-// One command: what it does to an end in its buffers, and its line.
+// One command: what it does to an end in its buffers, and its line. Each of the ten has a function of its own, of a call and what is printed
+// after it: one function for them would take both as closures with contracts, and be longer than they are. The room is that of a whole line,
+// which a type could not say once: each line uses it up.
 
 #![tactic(auto)]
 
@@ -29,6 +31,7 @@ pub fn run(end: &mut SessionEnd, command: Command, bytes: &mut [u8; 2000], write
     bytes.fill(0);
 }
 
+// Apart from `run`, whose last step would else be proved after each of ten arms.
 fn answer(end: &mut SessionEnd, command: Command, bytes: &mut [u8; 2000], writer: &mut Writer)
     requires { InRange command × Room writer.old 8192 }
     ensures kept_after { end.new ≡ (commanded_from end.old command bytes.old).kept }
@@ -153,7 +156,7 @@ fn count(end: &mut SessionEnd, key: Key, n: u32, writer: &mut Writer)
     put_plain(end, b"count refuse=", 0, writer);
 }
 
-// The command, the number of its refusal, and the state.
+// The command, the number of its refusal, which is printed as it is, and the state.
 fn put_plain(end: &SessionEnd, word: &[u8], refuse: u64, writer: &mut Writer)
     requires { (length word.now ≤ 20) × Room writer.old 8192 }
     ensures { Appends writer.old (stated (word.now ++ decimal refuse) end.now).line writer.new }

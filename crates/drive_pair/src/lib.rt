@@ -14,7 +14,7 @@ use drive_script::{Command, Line};
 use std::marker::Model;
 use text::Writer;
 
-// The two ends, and the line so far at the start of its buffer.
+// The two ends, and the line so far at the start of its buffer: fixed memory. A line of 4,097 bytes is one that is too long, as `longer` says.
 #[derive(Drop)]
 pub struct Pair {
     pub a: SessionEnd,

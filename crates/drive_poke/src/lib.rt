@@ -97,7 +97,7 @@ pub fn poked(e: End, field: EndField, value: u64) -> End
     }
 }
 
-// The ticket with one count set.
+// The ticket with one count set. A name for each count, as in `poked`: a field cannot be handed over.
 pub fn with_count(ticket: Ticket, key: Key, n: u32) -> Ticket
     ensures { result ≡ with_count_of ticket key n }
 {

@@ -8,7 +8,8 @@ ghost use Rattle.drive_script.specs.Script.{start_command, send_command, poke_co
 use crate::Command;
 use drive_token::{cut, digits, is};
 
-// The command of its word and of its arguments.
+// The command of its word and of its arguments. The words go by how many arguments they have: a table of functions would need one type for
+// functions of one, two and three arguments, of which some write bytes.
 pub fn command(op: &[u8], arguments: Option<&[u8]>, bytes: &mut [u8]) -> Option<Command>
     requires { 2000 ≤ length bytes.old }
     ensures value { result ≡ command_of op.now (tokens_in arguments.entry) }
@@ -131,6 +132,7 @@ fn lend(store: &[u8], hold: &[u8]) -> Option<Command>
     Some(Command::Lend(s as usize, h as usize))
 }
 
+// Not one function with poke: there the largest number goes by the field.
 #[tactic(auto, unfolding(crate::specs::Script::count_command))]
 fn count(name: &[u8], token: &[u8]) -> Option<Command>
     ensures { result ≡ count_command (key_of name.now) token.now }

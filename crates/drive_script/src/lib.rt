@@ -33,7 +33,7 @@ pub struct Line {
     pub command: Command,
 }
 
-// Reads a line. The bytes of its HEX go to the first places of the buffer.
+// Reads a line. The bytes of its HEX go to the first places of the buffer, which may be longer than it must, so its length is in no type.
 #[tactic(auto, unfolding(crate::specs::Script::line_of))]
 pub fn read_line(line: &[u8], bytes: &mut [u8]) -> Line
     requires { 2000 ≤ length bytes.old }

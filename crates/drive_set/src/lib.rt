@@ -9,7 +9,7 @@ ghost use Rattle.drive_set.specs.Settings.{side_poked, side_lent, side_counted};
 use drive_name::{EndField, Key};
 use drive_side::Side;
 
-// Sets a field of the state.
+// Sets a field of the state. A field and its value come apart, as the command has them, and the one bounds the other by `most`.
 #[tactic(auto, unfolding(crate::specs::Settings::side_poked))]
 pub fn poke(side: Side, field: EndField, value: u64) -> Side
     requires { value ≤ most field }

@@ -47,7 +47,7 @@ fn put_numbers(writer: &mut Writer, e: End)
     );
 }
 
-// What comes after it: the information newest first, and the checksums of both buffers.
+// What comes after it: the information newest first, and the checksums of both buffers. The eight are written out: arrays are not joined.
 fn put_rest(writer: &mut Writer, e: End, store: u64, hold: u64)
     requires { Room writer.old 384 }
     ensures { Appends writer.old (after_mode e store hold) writer.new }

@@ -1,4 +1,5 @@
-// What every operation but start refuses first: STORE and STATE.
+// What every operation but start refuses first: STORE and STATE. An end and its store come apart to this point, as callers lend them (document
+// 01); that they belong together is found here, and a `Ring` holds both from then on where only they are read.
 
 #![tactic(auto)]
 

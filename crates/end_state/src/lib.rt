@@ -120,7 +120,7 @@ impl End {
     // The data flits of the longest unit.
     pub const LONGEST: usize = 8;
 
-    // Every number, count and place is 0, no mark is set and the mode is run.
+    // Every number, count and place is 0, no mark is set and the mode is run. No Default: it would be an end of capacity 0, which no store has.
     fn fresh(capacity: FlitCount) -> End
         ensures { result ≡ fresh_of capacity.0 }
     {

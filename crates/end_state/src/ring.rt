@@ -37,7 +37,8 @@ pub fn place(places: usize, first: usize, n: usize) -> usize
     if at < places { at } else { at - places }
 }
 
-// Copies flit `at` of one slice over flit `over` of another.
+// Copies flit `at` of one slice over flit `over` of another. Flits are cut out by their number, since callers lend bytes (document
+// 01), and go through a value, which is faster (`flit_read::copy`).
 pub fn copy_flit(from: &[u8], at: usize, to: &mut [u8], over: usize)
     requires { (at * 64 + 64 ≤ length from.now) × (over * 64 + 64 ≤ length to.old) }
     ensures { to.new ≡ put_at to.old over (flit_at from.now at) }

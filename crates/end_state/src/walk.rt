@@ -7,7 +7,7 @@ use flit_number::FlitCount;
 use flit_read::read;
 
 // After some of the held flits: the data flits before the next control flit, the data flits of the unit last begun, whether a unit
-// ends here, and whether every control flit so far is one that accept takes.
+// ends here, and whether every control flit so far is one that accept takes. No Option: the walk goes on past a control flit that is not.
 #[derive(Clone, Copy)]
 pub struct Walk {
     pub left: usize,

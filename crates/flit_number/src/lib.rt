@@ -39,6 +39,8 @@ pub fn flits_between(from: SequenceNumber, to: SequenceNumber) -> FlitCount
     FlitCount(to.0.wrapping_sub(from.0) as usize)
 }
 
+// One step back and one on have a name and a definition each, and are no From: which of them an acknowledge number is goes by the edition
+// (condition A).
 // The last number received by an end that wants `wanted` next.
 #[tactic(auto, unfolding(crate::specs::Numbers::acknowledge_for, crate::specs::Numbers::difference))]
 pub fn last_received(wanted: NextWanted) -> LastReceived

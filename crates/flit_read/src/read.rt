@@ -55,7 +55,7 @@ pub fn fields(flit: &[u8]) -> Fields
     }
 }
 
-// Whether a control flit is one that accept takes: run length at most 8, no bit of 63:18 set.
+// Whether a control flit is one that accept takes: run length at most 8, no bit of 63:18 set. The 8 has its name, `LONGEST`, above this crate.
 pub fn acceptable(flit: &[u8]) -> bool
     requires { length flit.now ≡ 64 }
     ensures { result ≡ acceptable_of flit.now }

@@ -39,7 +39,7 @@ fn mark(place: u64, set: bool) -> u64
     if set { place } else { 0 }
 }
 
-// A control flit as it is sent, but for its check.
+// A control flit as it is sent, but for its check. An ACK count has five bits, so at most 31 is asked where one is written.
 pub fn control_told(flit: [u8; 64], acks: FlitCount, stalled: bool) -> [u8; 64]
     requires { acks.0 ≤ 31 }
     ensures { result ≡ control_told_of flit acks.0 stalled }

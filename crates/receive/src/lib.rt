@@ -1,4 +1,4 @@
-// Receive takes one arriving flit (01, "Receive").
+// Receive takes one arriving flit (01, "Receive"). The buffers come in apart, as callers lend them.
 
 #![tactic(auto)]
 
@@ -65,7 +65,8 @@ fn write_hold(answer: Answer, e: End, hold: &mut [u8], flit: &[u8])
     }
 }
 
-// A flit into the part of hold that starts at 64 times the number already held.
+// A flit into the part of hold that starts at 64 times the number already held. Document 01 names this form, a part that is lent on; the flit
+// is made here and comes by value, where `end_state::ring::copy_flit` reads one from a buffer.
 #[tactic(auto, using(end_state::proofs::Parts::put_is))]
 fn put_at(hold: &mut [u8], place: usize, flit: [u8; 64])
     requires { (length hold.old ≡ 576) × (place ≤ 8) }

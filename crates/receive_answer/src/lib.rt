@@ -74,7 +74,7 @@ pub fn answer_flit(e: End, hold: &[u8], flit: &[u8], f: Fields) -> Answer
     answer_to(e, f, receive_test::checked_right(e, hold, flit))
 }
 
-// By mode.
+// By mode, as `mode_answer` goes.
 fn answer_to(e: End, f: Fields, correct: bool) -> Answer
     ensures { result ≡ mode_answer e.mode e f correct }
 {
@@ -85,7 +85,7 @@ fn answer_to(e: End, f: Fields, correct: bool) -> Answer
     }
 }
 
-// In mode run.
+// In mode run. Whether the check is right is no field of a flit: it comes of hold too, and goes in beside the fields.
 #[tactic(auto, unfolding(crate::specs::Answers::run_answer))]
 fn run_answer(e: End, f: Fields, correct: bool) -> Answer
     ensures { result ≡ run_answer_of e f correct }

@@ -44,7 +44,8 @@ fn find_border(e: End, store: &[u8], flits: FlitCount) -> Border
     border
 }
 
-// Where all is to be sent again, the cursor at the oldest unit, and replay pending.
+// Where all is to be sent again, the cursor at the oldest unit, and replay pending. `again` is a flag, as in `sent_anew`: both callers have it
+// as one.
 pub fn sent_anew(e: End, again: bool) -> End
     ensures { result ≡ sent_anew_of again e }
 {

@@ -82,7 +82,7 @@ fn running(e: End) -> End
     }
 }
 
-// Ahead: as damage in mode run, as one more discarded in mode wait.
+// Ahead: as damage in mode run, as one more discarded in mode wait. A match, since `ahead_in` goes by mode.
 fn ahead(mode: Mode, e: End) -> End
     requires { e.discards ≤ 63 }
     ensures { result ≡ ahead_in mode e }
@@ -94,7 +94,7 @@ fn ahead(mode: Mode, e: End) -> End
     }
 }
 
-// The end after an answer that was found for it.
+// The end after an answer that was found for it: a step for each answer, as document 01 has them, and some take what others do not.
 #[tactic(auto, unfolding(crate::specs::Effects::end_after))]
 pub fn end_after(answer: Answer, e: End, store: &[u8], f: Fields) -> End
     requires { (store_is e (length store.now) ≡ true) × (sound e store.now ≡ true) × ((b : Bool) × (answer ≡ mode_answer e.mode e f b)) }

@@ -11,7 +11,8 @@ use end_state::End;
 use flit_number::{FlitCount, NextWanted};
 use flit_read::Fields;
 
-// An idle flit: its acknowledgement counts, and stalled takes its bit.
+// An idle flit: its acknowledgement counts, and stalled takes its bit. `Covered` is one name for what may be acknowledged; each step asks it of a
+// number of its own.
 pub fn idled(e: End, store: &[u8], f: Fields) -> End
     requires { Covered e store.now f.acks.0 }
     ensures { result ≡ idled_of e store.now f }

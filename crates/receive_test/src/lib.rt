@@ -35,7 +35,8 @@ pub fn closes(e: End) -> bool
     !e.stalled & (0 < e.owed.0) & (e.gathered.0 == e.owed.0)
 }
 
-// The check over the flit with its data where it closes a unit in mode run, else over the flit alone.
+// The check over the flit with its data where it closes a unit in mode run, else over the flit alone. Hold is bytes that a caller lends, and
+// the state says how many flits of it count (document 01).
 pub fn checked_right(e: End, hold: &[u8], flit: &[u8]) -> bool
     requires { e.gathered.0 * 64 ≤ length hold.now }
     ensures { result ≡ right (checked e hold.now flit.now) }

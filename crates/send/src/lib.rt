@@ -1,4 +1,4 @@
-// Send writes what goes on the wire next (01, "Send").
+// Send writes what goes on the wire next (01, "Send"). The buffers come in apart, as callers lend them.
 
 #![tactic(auto)]
 

@@ -10,7 +10,7 @@ use flit_number::FlitCount;
 use flit_read::copy;
 use flit_write::Replay;
 
-// Two replay flits, alike, at the start of the output.
+// Two replay flits, alike, at the start of the output, which is bytes that a caller lends (document 01).
 pub fn write_replays(e: End, run: FlitCount, output: &mut [u8], errors: u8, information: u64)
     requires { (run.0 ≤ 8) × (640 ≤ length output.old) }
     ensures { output.new ≡ (replay_sent e run.0 errors information ++ replay_sent e run.0 errors information) ++ drop 128 output.old }

@@ -1,5 +1,6 @@
 // What one send moves: untold, pending, the cursor and sent (01, "Send"). `run` is everywhere the run length of the control flit before the
-// cursor.
+// cursor: found once in a send, and handed on. That it is at most 8 is asked where it is added to or written, one comparison; a type with this
+// fact would be taken apart at each of these.
 
 #![tactic(auto)]
 
@@ -9,7 +10,7 @@ ghost use Rattle.send_state.specs.Moves.{carried as carried_of, fallen as fallen
 use end_state::End;
 use flit_number::FlitCount;
 
-// The end after the burst.
+// The end after the burst. The choice is that of `send_burst::write_burst`, which writes; one function for both would have two results.
 pub fn moved(e: End, run: FlitCount) -> End
     requires { run.0 ≤ 8 }
     ensures { result ≡ moved_of e run.0 }

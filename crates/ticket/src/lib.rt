@@ -78,6 +78,7 @@ pub fn write_ticket(t: Ticket, out: &mut [u8]) -> Option<usize>
     ensures value { result ≡ answer_for t (length out.old) }
     ensures out_after { out.new ≡ ticket_output t out.old }
 {
+    // fixed memory: a ticket has at most 160 bytes
     let mut whole = [0u8; 160];
     let bytes = write_whole(t, &mut whole);
     if out.len() < bytes {
