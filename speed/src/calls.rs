@@ -489,8 +489,8 @@ pub fn print() {
         laying = laying.min(ns_to_lay());
     }
 
-    println!("Laying the table alone: {laying:.0} ns.\n");
-    println!("| Call | flits held | in units | plain Rust, ns | proved, table laid, ns | ratio | public call, ns | more, ns |");
+    println!("Writing a copy of the table: {laying:.0} ns.\n");
+    println!("| Call | flits held | in units | plain Rust, ns | proved, handed a table, ns | ratio | proved, ns | more, ns |");
     println!("|---|---|---|---|---|---|---|---|");
     for (case, [plain, laid, public]) in cases.iter().zip(least) {
         // accept checks no unit, and has no table

@@ -39,11 +39,11 @@ pub fn print() {
     let checks: [Check; 5] = [
         ("plain Rust, byte table", Box::new(plain::right_by_bytes)),
         (
-            "proved, table laid at each call",
+            "proved",
             Box::new(|unit| unsafe { crc_right(unit.as_ptr(), unit.len()) }),
         ),
         (
-            "proved, table laid by the caller",
+            "proved, by the name that is handed a table",
             Box::new(|unit| unsafe { crc_right_with(table.as_ptr(), unit.as_ptr(), unit.len()) }),
         ),
         ("plain Rust, bit by bit", Box::new(plain::right_by_bits)),
