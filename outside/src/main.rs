@@ -20,7 +20,7 @@ extern "C" {
     ) -> bool;
 }
 
-/// The crate's functions, with the table that `crc_lay` wrote for those that take one.
+/// The crate's functions, with the table that `crc_lay` wrote.
 struct Proved {
     table: [u64; 256],
 }
@@ -38,6 +38,13 @@ impl Proved {
 
     fn right_with(&self, unit: &[u8]) -> bool {
         unsafe { crc_right_with(self.table.as_ptr(), unit.as_ptr(), unit.len()) }
+    }
+
+    /// Through the table itself: no function of the crate that is handed one looks at it.
+    fn right_by_table(&self, unit: &[u8]) -> bool {
+        let step =
+            |r: u64, &b: &u8| (r >> 8) ^ self.table[(r & 255) as usize] ^ (u64::from(b) << 28);
+        unit.iter().fold(0, step) == 0
     }
 
     fn right_after(&self, held: &[u8], flit: &[u8]) -> bool {
@@ -86,6 +93,7 @@ fn compare_right(proved: &Proved, unit: &[u8], cut: usize) -> bool {
     let apart = division::right(unit);
     same("right", unit, proved.right(unit), apart);
     same("right_with", unit, proved.right_with(unit), apart);
+    same("the table", unit, proved.right_by_table(unit), apart);
     let (held, flit) = unit.split_at(cut);
     same("right_after", unit, proved.right_after(held, flit), apart);
     apart

@@ -109,7 +109,7 @@ impl Capture {
             &self.input[..bytes],
             &mut writer,
         );
-        text_out::write(rt, writer)?;
+        text_out::write_out(rt, writer)?;
         self.rest = bytes % 64;
         bench_capture::keep_rest(&mut self.input, bytes - self.rest, self.rest);
         Ok(0 < more)
@@ -117,17 +117,13 @@ impl Capture {
 
     // Prints the lines after the last flit.
     fn print_last<R: Print + Eprint>(&mut self, rt: &R, ticketed: bool) -> Result<(), Failed> {
-        let mut writer = Writer {
-            out: &mut self.out,
-            at: 0,
-        };
-        let ticket = if ticketed {
-            Some(self.kept.ticket)
-        } else {
-            None
-        };
-        bench_line::put_last_lines(&mut writer, self.rest, ticket);
-        text_out::write(rt, writer)
+        let bytes = bench_line::write_last_lines(
+            &mut self.out,
+            self.rest,
+            self.kept.ticket,
+            ticketed,
+        );
+        text_out::write(rt, &self.out[..bytes])
     }
 }
 

@@ -1,7 +1,7 @@
--- The lines from their forms, and how long they are.
-use mathlib.Core.List.{List, [], ◌∷◌, ◌++◌, append-nil, append_assoc}
-use mathlib.Core.Path.{◌≡◌, refl, ap, sym, ◌∙◌}
-use Prim.Native.Nat.{ℕ, ◌≤◌}
+-- How long the lines are, and the last ones from their form.
+use mathlib.Core.List.{List, [], ◌∷◌, ◌++◌, append-nil}
+use mathlib.Core.Path.{◌≡◌, refl, sym, ◌∙◌}
+use Prim.Native.Nat.{ℕ, ◌+◌, ◌≤◌}
 use native.Mathlib.Omega.{arith}
 use lib.ListN.{length, length-append}
 use Rattle.std.specs.Prelude.{Option, Some, None}
@@ -11,14 +11,13 @@ use Rattle.text.proofs.Laws.{length_decimal, appends_more, appends_as}
 use Rattle.ticket.specs.Ticket.{text}
 use Rattle.ticket.specs.declared.Ticket.{Ticket}
 use Rattle.ticket.proofs.Laws.{text_short}
-use Rattle.text_word.specs.Words.{answer_word, mode_word}
 use Rattle.text_word.proofs.Laws.{answer_short, mode_short}
 use Rattle.end_state.specs.declared.End.{End}
 use Rattle.receive_answer.specs.Answers.{tells}
 use Rattle.receive_answer.specs.declared.Answer.{Answer}
 use Rattle.bench_line.specs.Line.{answer_part, state_part, flit_line, ticket_asked, last_lines}
 
-answer_part_short : (flit : ℕ) (a : Answer) → length (answer_part flit a) ≤ 80
+pub answer_part_short : (flit : ℕ) (a : Answer) → length (answer_part flit a) ≤ 80
 unfolding answer_part
 answer_part_short flit a =
     simp length-append (omega (arith, length_decimal flit, answer_short a, length_decimal (tells a).delivered))
@@ -31,21 +30,16 @@ pub line_short : (flit : ℕ) (a : Answer) (e : End) → length (flit_line flit 
 unfolding flit_line
 line_short flit a e = simp length-append (omega (arith, answer_part_short flit a, state_part_short e))
 
--- ---- a line from its forms
+-- ---- room
 
-line_joined : (flit word data_part wanted key mode feed : List ℕ)
-    → flit ++ word ++ (data_part ++ (wanted ++ key)) ++ mode ++ feed ≡ (flit ++ word ++ data_part) ++ (wanted ++ key ++ mode ++ feed)
-line_joined flit word data_part wanted key mode feed = simp append_assoc
+-- a key and its number
+pub field_short : (key : List ℕ) (n : ℕ) → length (key ++ decimal n) ≤ length key + 20
+field_short key n = simp length-append (omega (arith, length_decimal n))
 
-pub line_is : (flit : ℕ) (a : Answer) (e : End) (n : ℕ) → n ≡ (tells a).delivered
-    → filled (ascii "flit=# answer=") (flit ∷ []) ++ answer_word a ++ filled (ascii " data=# wanted=# mode=") (n ∷ e.wanted.0 ∷ [])
-    ++ mode_word e.mode
-    ++ ascii "\n"
-    ≡ flit_line flit a e
-unfolding filled flit_line answer_part state_part
-line_is flit a e n h =
-    line_joined (ascii "flit=" ++ decimal flit ++ ascii " answer=") (answer_word a) (ascii " data=" ++ decimal n) (ascii " wanted=" ++ decimal e.wanted.0) (ascii " mode=") (mode_word e.mode) (ascii "\n")
-    ∙ ap (λ (k : ℕ). (ascii "flit=" ++ decimal flit ++ ascii " answer=" ++ answer_word a ++ (ascii " data=" ++ decimal k)) ++ state_part e) h
+-- what is left of the room after a text of at most so many bytes
+pub room_left : {before after : Writer} {text : List ℕ} {most : ℕ} (more : ℕ) → Appends before text after → length text ≤ most
+    → before.at + (most + more) ≤ length before.out.now → after.at + more ≤ length after.out.now
+room_left more p h k = omega (arith, p.puts.place, p.puts.size, h)
 
 -- the last lines, with the ticket and without it
 lines_joined : (rest : ℕ) (ticket : Option Ticket)

@@ -3,7 +3,7 @@
 
 #![tactic(auto)]
 
-ghost use Rattle.std.specs.Prelude.{◌≤◌, length};
+ghost use Rattle.std.specs.Prelude.{◌≡◌, ◌≤◌, length, drop};
 
 use drive_pair::Pair;
 use std::env::{Env, FillError};
@@ -55,10 +55,18 @@ fn print_part<R: Print + Eprint>(
     while !rest.is_empty() {
         let mut writer = Writer { out, at: 0 };
         let used = drive_session::feed(pair, rest, &mut writer);
-        text_out::write(rt, writer)?;
-        rest = &rest[used..];
+        text_out::write_out(rt, writer)?;
+        rest = after(rest, used);
     }
     Ok(())
+}
+
+// The input goes on where the session stopped.
+fn after(part: &[u8], used: usize) -> &[u8]
+    requires { used ≤ length part.now }
+    ensures { result.now ≡ drop used part.now }
+{
+    &part[used..]
 }
 
 fn print_last<R: Print + Eprint>(rt: &R, pair: &mut Pair, out: &mut [u8]) -> Result<(), Failed>
@@ -66,5 +74,5 @@ fn print_last<R: Print + Eprint>(rt: &R, pair: &mut Pair, out: &mut [u8]) -> Res
 {
     let mut writer = Writer { out, at: 0 };
     drive_session::finish(pair, &mut writer);
-    text_out::write(rt, writer)
+    text_out::write_out(rt, writer)
 }

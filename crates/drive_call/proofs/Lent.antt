@@ -12,7 +12,7 @@ use lib.Seq.{length-take-le, length_front, take_all, take_at, drop_at, drop-drop
 use native.Mathlib.Nat.{sub-zero}
 use Rattle.text.specs.Text.{written}
 use Rattle.text.proofs.Laws.{written_none, length_written}
-use Rattle.drive_call.specs.Sides.{Clean, repeated, lent_bytes, kept_after, fill_fits}
+use Rattle.drive_call.specs.Sides.{Clean, repeated, lent_bytes, kept_after, fill_fits, fills_store}
 
 -- ---- bytes alike
 
@@ -192,7 +192,7 @@ module _ (xs : List ℕ) (kept n : ℕ) (h : kept ≤ length xs) (k : n ≤ leng
 -- what fill answers and leaves
 pub record Filled (xs : List ℕ) (kept offset : ℕ) (bytes : List ℕ) (fits : Bool) (after : List ℕ) : Type 0 where
   pub value : fits ≡ fill_fits kept offset (length bytes)
-  pub left : after ≡ lent_bytes (length xs) (cond (fill_fits kept offset (length bytes)) (written (take kept xs) offset bytes) (take kept xs))
+  pub left : after ≡ lent_bytes (length xs) (fills_store kept (take kept xs) offset bytes)
 
 module _ {xs : List ℕ} {kept : ℕ} (k : kept ≤ length xs) (z : Clean kept xs) (offset : ℕ) (bytes : List ℕ) where
   filled_as : {fits : Bool} {after : List ℕ} → fits ≡ fill_fits kept offset (length bytes)

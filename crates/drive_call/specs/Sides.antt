@@ -12,6 +12,7 @@ use Rattle.receive_answer.specs.declared.Answer.{Answer}
 use Rattle.ticket.specs.Ticket.{TicketCall, nothing, ticket_after}
 use Rattle.drive_side.specs.Side.{after_call}
 use Rattle.drive_side.specs.declared.Side.{Side}
+use Rattle.drive_call.specs.declared.Took.{Took}
 
 -- ---- an end
 
@@ -25,6 +26,10 @@ pub record Kept : Type 0 where
 pub record Called (A : Type 0) : Type 0 where
   pub kept : Kept
   pub answer : A
+
+-- the side of what is left, and the answer
+abbrev pub side_answer : {A : Type 0} → Called A → Took A
+side_answer d = record { side = d.kept.side; answer = d.answer }
 
 -- ---- buffers
 
@@ -117,13 +122,17 @@ receives k flit =
 unfoldable pub fill_fits : ℕ → ℕ → ℕ → Bool
 fill_fits kept offset bytes = eqb bytes 0 || leb (offset + bytes) kept
 
+-- the store after it: the bytes in their place, or as it was
+abbrev pub fills_store : ℕ → List ℕ → ℕ → List ℕ → List ℕ
+fills_store kept store offset bytes = cond (fill_fits kept offset (length bytes)) (written store offset bytes) store
+
 -- the bytes in their place in the store, or all as it was
 unfoldable pub fills : Kept → ℕ → List ℕ → Called Bool
 fills k offset bytes =
     record {
       kept = record {
         side = k.side;
-        store = cond (fill_fits k.side.kept offset (length bytes)) (written k.store offset bytes) k.store;
+        store = fills_store k.side.kept k.store offset bytes;
         hold = k.hold;
       };
       answer = fill_fits k.side.kept offset (length bytes);

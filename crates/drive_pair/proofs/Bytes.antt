@@ -90,7 +90,7 @@ unfolding byte
 byte_ends s {c} e = sym (cond-true (eqb c 10) (ended s) _ (eq-eqb c 10 e))
 
 -- any other byte is remembered
-goes_byte : (s : State) {c : ℕ} {line : List ℕ} (w : Writer) → (c ≡ 10 → ⊥) → line ≡ longer s.line c → Room w 0
+pub goes_byte : (s : State) {c : ℕ} {line : List ℕ} (w : Writer) → (c ≡ 10 → ⊥) → line ≡ longer s.line c → Room w 0
     → Goes (byte s c) (record { a = s.a; b = s.b; line = line }) w w
 unfolding byte
 goes_byte s {c} {line} w z e h =

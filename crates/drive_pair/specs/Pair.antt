@@ -1,4 +1,5 @@
 -- Two ends and the line so far: what one byte of the input does.
+use Rattle.std.proofs.Common.{sym, subst}
 use Rattle.std.specs.Prelude.{cond, List, [], ◌∷◌, ◌++◌, ◌≡◌, ℕ, ◌≤◌, leb, ltb, eqb, length}
 use Rattle.text.specs.Text.{Appends, Room}
 use Rattle.text.specs.declared.Writer.{Writer}
@@ -48,6 +49,17 @@ byte s c = cond (eqb c 10) (ended s) (record { state = record { a = s.a; b = s.b
 pub record LineBuffered (bytes : ℕ) (line : List ℕ) : Type 0 where
   pub inside : bytes ≤ 4097
   pub clean : Clean bytes line
+
+-- and the buffer is whole
+abbrev pub LineWhole : ℕ → List ℕ → Type 0
+LineWhole bytes line = (length line ≡ 4097) × LineBuffered bytes line
+
+pub line_inside : {bytes : ℕ} {line : List ℕ} → LineWhole bytes line → bytes ≤ length line
+line_inside {bytes} w = subst (λ (n : ℕ). bytes ≤ n) (sym w.0) w.1.inside
+
+-- so many bytes of the line are there
+abbrev pub line_bytes : State → ℕ
+line_bytes s = length s.line
 
 -- a state is left, and the lines are put
 pub record Goes (s : PairStep) (d : State) (before after : Writer) : Type 0 where

@@ -15,7 +15,7 @@ use std::marker::Model;
 use text::Writer;
 
 // The two ends, and the line so far at the start of its buffer: fixed memory. A line of 4,097 bytes is one that is too long, as `longer` says.
-#[derive(Drop)]
+#[derive(Clone, Copy)]
 pub struct Pair {
     pub a: SessionEnd,
     pub b: SessionEnd,
@@ -25,13 +25,24 @@ pub struct Pair {
 
 impl Model for Pair {
     ghost use Rattle.std.specs.Prelude.{take};
-    ghost use Rattle.drive_pair.specs.Pair.{State, LineBuffered};
+    ghost use Rattle.std.proofs.lemmas.List.{length-take-le};
+    ghost use Rattle.drive_call.specs.Whole.{whole_buffer, whole_again};
+    ghost use Rattle.drive_pair.specs.Pair.{State, LineWhole, line_bytes, line_inside};
 
     ghost Value = { State };
 
     ghost view = { λ d. record { a = d.a; b = d.b; line = take d.length d.line } };
 
-    ghost invariant = { λ d. LineBuffered d.length d.line };
+    ghost invariant = { λ d. LineWhole d.length d.line };
+
+    ghost inverse = { λ s. record { a = s.a; b = s.b; line = whole_buffer 4097 s.line; length = line_bytes s } };
+
+    ghost inverse_ok = { λ d h i. record {
+      a = d.a;
+      b = d.b;
+      line = whole_again d.line d.length 4097 h.0 (line_inside h) h.1.clean i;
+      length = length-take-le d.length d.line (line_inside h) i;
+    } };
 }
 
 impl Pair {

@@ -2,7 +2,7 @@
 use mathlib.Core.Path.{◌≡◌, refl, ap, ap₂, sym, ◌∙◌}
 use mathlib.Core.Bool.{true}
 use mathlib.Core.List.{List, [], ◌∷◌, ◌++◌}
-use Prim.Native.Nat.{ℕ, suc, ◌+◌, ◌-◌, ◌*◌, ◌/◌, ◌≤◌, ◌<◌}
+use Prim.Native.Nat.{ℕ, zero, suc, ◌+◌, ◌-◌, ◌*◌, ◌/◌, ◌≤◌, ◌<◌}
 use native.Mathlib.Omega.{arith}
 use native.Mathlib.Decide.{dec_lt}
 use lib.ListN.{length, drop, length-drop, take-append-drop, get_or-append}
@@ -26,7 +26,7 @@ use Rattle.proof_model.proofs.Step
 use Rattle.proof_model.proofs.Step.{Room}
 use Rattle.proof_model.proofs.Num.{num_le}
 use Rattle.proof_model.proofs.Inv.{Local}
-use Rattle.proof_wire.proofs.Pieces.{cut, length_cut, flits_cut, joined_cut, get_or_cut}
+use Rattle.proof_wire.proofs.Pieces.{cut, length_cut, flits_cut, joined_cut, get_or_cut, put_bytes}
 use Rattle.proof_wire.proofs.Wrap.{most}
 use Rattle.proof_wire.proofs.Stands.{Stands, Taken, flit_of}
 use Rattle.proof_wire.proofs.Says.{bytes_of}
@@ -136,3 +136,12 @@ module _ (f : Stream) (store unit : List ℕ) (s : Sender) (q : KeptEnd) (l : Lo
             (written_at q.capacity.0 q.first q.held.0 store unit (flits_of unit) h.size h.first o.room o.shape.whole (flits_of unit) j (omega arith) (omega (arith, flits_here))
             ∙ sym (block_flit unit o.shape.whole o.shape.least j (omega (arith, flits_here)))
             ∙ ap (λ (u : Block). flit_of u j) (sym this))
+
+-- a unit's bytes in a store of bytes leave one
+pub then_bytes : (places first held : ℕ) (store unit : List ℕ) (n : ℕ) → AllBytes store → AllBytes unit
+    → AllBytes (flits_stored places first held store unit n)
+unfolding flits_stored flit_at
+then_bytes places first held store unit zero b c = b
+then_bytes places first held store unit (suc n) b c =
+    put_bytes (flits_stored places first held store unit n) (ring_place places first (held + n)) (flit_at unit n)
+    (then_bytes places first held store unit n b c) (take_bytes 64 (drop (n * 64) unit) (drop_bytes (n * 64) unit c))

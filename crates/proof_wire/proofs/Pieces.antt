@@ -5,6 +5,8 @@ use Prim.Native.Nat.{ℕ, zero, suc, ◌+◌, ◌*◌, ◌<◌, ◌≤◌}
 use native.Mathlib.Omega.{arith}
 use lib.ListN.{length, take, drop, get_or, length-append, length-drop}
 use lib.Seq.{length-take-le, take-append-le, drop-append-le, drop-append-add, take_at, drop-drop, take-add}
+use Rattle.crc.specs.Unit.{AllBytes}
+use Rattle.flit_read.proofs.Laws.{append_bytes, take_bytes, drop_bytes}
 use Rattle.end_state.specs.Ring.{flit_at, put_at}
 
 -- ---- a flit at a place
@@ -26,6 +28,13 @@ module _ (s : List ℕ) (p : ℕ) (x : List ℕ) (fits : p * 64 + 64 ≤ length 
       let e : suc p * 64 ≡ p * 64 + 64 = omega arith in
       ap₂ (λ (n : ℕ) (l : List ℕ). take n l) e in_front
       ∙ take_at (take (p * 64) s ++ x) (drop (p * 64 + 64) s) (p * 64 + 64) whole_front
+
+-- what is put and what was there are bytes
+pub put_bytes : (s : List ℕ) (p : ℕ) (x : List ℕ) → AllBytes s → AllBytes x → AllBytes (put_at s p x)
+unfolding put_at
+put_bytes s p x hs hx =
+    append_bytes (take (p * 64) s) (x ++ drop (p * 64 + 64) s) (take_bytes (p * 64) s hs)
+    (append_bytes x (drop (p * 64 + 64) s) hx (drop_bytes (p * 64 + 64) s hs))
 
 -- ---- whole flits in a row
 

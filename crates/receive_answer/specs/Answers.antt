@@ -22,6 +22,7 @@ cause_number cause.PastSent = 1
 cause_number cause.LongRun = 2
 cause_number cause.ShortNext = 3
 cause_number cause.Untold = 4
+cause_number (cause.Other n) = n
 
 abbrev pub half : ℕ
 half = 32768

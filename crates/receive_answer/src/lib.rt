@@ -11,24 +11,32 @@ use end_state::{End, Mode, Refusal};
 use flit_number::FlitCount;
 use flit_read::Fields;
 
-// Why the link goes down, by document 01's numbers.
+// Why the link goes down, by document 01's numbers. Receive answers the first four. A state may have any number of a byte, which the last one
+// holds.
 #[derive(Clone, Copy)]
 pub enum Cause {
     // an acknowledgement past what was sent
-    PastSent = 1,
+    PastSent,
     // a previous run length over 8
     LongRun,
     // a short flit next
     ShortNext,
     // more delivered than may be untold
     Untold,
+    Other(u8),
 }
 
 impl From<Cause> for u8 {
     ghost from_gives = { λ cause n. n ≡ cause_number cause };
 
     fn from(cause: Cause) -> u8 {
-        cause as u8
+        match cause {
+            Cause::PastSent => 1,
+            Cause::LongRun => 2,
+            Cause::ShortNext => 3,
+            Cause::Untold => 4,
+            Cause::Other(number) => number,
+        }
     }
 }
 

@@ -112,7 +112,7 @@ digit_by_digit =
 pub decimal_is : (n : ℕ) → n < 2 ^ 64 → decimal n ≡ std_decimal n
 decimal_is n h = decimal_from_appends digits digit_by_digit 20 n h (length-decimal-le 20 n (omega arith) (omega arith) h)
 
-length_digits : (k n : ℕ) → length (digits k n) ≤ k
+pub length_digits : (k n : ℕ) → length (digits k n) ≤ k
 unfolding digits
 length_digits zero n = omega arith
 length_digits (suc k) n = shorter (ltb n 10) (length_digits k (n / 10))

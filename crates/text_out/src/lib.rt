@@ -12,15 +12,20 @@ use text::Writer;
 #[derive(Drop)]
 pub struct Failed;
 
-// Writes to standard output what was written into a buffer.
-pub fn write<R: Print + Eprint>(rt: &R, writer: Writer) -> Result<(), Failed>
-    requires { writer.at ≤ length writer.out.now }
-{
-    let Writer { out, at } = writer;
-    match rt.write_all(&out[..at]) {
+// Writes a text to standard output.
+pub fn write<R: Print + Eprint>(rt: &R, text: &[u8]) -> Result<(), Failed> {
+    match rt.write_all(text) {
         Ok(()) => Ok(()),
         Err(error) => Err(fail(rt, "standard output", error)),
     }
+}
+
+// Writes to standard output what was written into a buffer.
+pub fn write_out<R: Print + Eprint>(rt: &R, writer: Writer) -> Result<(), Failed>
+    requires { writer.at ≤ length writer.out.now }
+{
+    let Writer { out, at } = writer;
+    write(rt, &out[..at])
 }
 
 // Reads once from standard input, and answers how many bytes.

@@ -9,7 +9,9 @@ use Rattle.drive_line.proofs.lend.Goals as goal
 
 pub invariant_of-end : goal.invariant_of-end
 unfolding side_lent
-invariant_of-end c = buffered_lent c.lend-end-inside.ensures (omega (arith, c.requires.0, c.end.told)) (omega (arith, c.requires.1, c.end.told)) c.end.invariant
+invariant_of-end c =
+    let i = c.end.invariant in
+    (i.0, i.1, buffered_lent c.lend-end-inside.ensures (omega (arith, c.requires.0, i.0)) (omega (arith, c.requires.1, i.1)) i.2)
 
 pub returns : goal.returns
 unfolding side_lent lend_line

@@ -9,7 +9,7 @@ use Rattle.drive_line.proofs.poke.Goals as goal
 
 pub invariant_of-end : goal.invariant_of-end
 unfolding side_poked
-invariant_of-end c = buffered_call c.poke-end-inside.ensures c.end.invariant
+invariant_of-end c = (c.end.invariant.0, c.end.invariant.1, buffered_call c.poke-end-inside.ensures c.end.invariant.2)
 
 pub returns : goal.returns
 unfolding side_poked poke_line

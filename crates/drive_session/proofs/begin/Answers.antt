@@ -8,7 +8,9 @@ use Rattle.drive_session.specs.Drive.{drive_begun}
 use Rattle.drive_session.proofs.begin.Goals as goal
 
 pub invariant_of-result : goal.invariant_of-result
-invariant_of-result c = record { inside = omega arith; clean = (zeros_clean c.zeros-line.result 4097 0 c.zeros-line.ensures (omega arith)).0 }
+invariant_of-result c =
+    let line = zeros_clean c.zeros-line.result 4097 0 c.zeros-line.ensures (omega arith) in
+    (line.2, record { inside = omega arith; clean = line.0 })
 
 pub returns : goal.returns
 unfolding drive_begun

@@ -4,8 +4,8 @@ use lib.ListN.{length-take}
 use Rattle.bench_capture.proofs.Laws.{session_counted, session_short}
 use Rattle.bench.proofs.Capture.print_some.Goals as goal
 
-pub write-requires : goal.write-requires
-write-requires g c =
+pub write_out-requires : goal.write_out-requires
+write_out-requires g c =
     let s = c.args.self.now in
     let p = c.print_flits-self in
     let part = take (s.rest + c.in_ok-more.more) c.read_after.new.input in

@@ -1,24 +1,17 @@
--- `BufferedEnd::accept` meets its contract: accept with what is lent of the store, the ticket after it, and the buffer clean again.
+-- `BufferedEnd::accept` meets its contract.
+use Rattle.std.proofs.Common.{◌∙◌}
 use Rattle.drive_call.specs.Sides.{accepts}
-use Rattle.drive_call.proofs.Lent.{left_clean}
 use Rattle.drive_call.proofs.Calls.{Left, accepted}
 use Rattle.drive_call.proofs.BufferedEnd.accept.Goals as goal
 
-pub clear-requires : goal.clear-requires
-clear-requires g c =
-    let s = c.self.inside in
-    let b = c.self.invariant in
-    left_clean s.store s.side.kept s.side.store b.kept b.store_lent b.store_clean c.accept-accepted.new.store c.accept-accepted.auto.store
-
 left : (g : _) → (c : goal.After-self-3-1 g)
-    → Left (accepts c.args.self.now c.args.unit.now) c.after_call-self-inside.result c.clear.new.buffer c.self.inside.hold c.accept-accepted.result.answer
+    → Left (accepts c.args.self.now c.args.unit.now) c.accept-took.result.side c.accept-took.new.store c.self.inside.hold c.accept-took.result.answer
 left g c =
-    let r = c.accept-accepted in
-    accepted c.self.invariant c.self.view_is c.args.unit.now r.auto.store r.ensures.value r.ensures.store_after c.clear.ensures
-    c.after_accept-counted.ensures c.after_call-self-inside.ensures
+    let r = c.accept-took in
+    accepted c.self.invariant.2 c.self.view_is c.args.unit.now r.ensures.value r.ensures.store_after
 
 pub invariant_of-self : goal.invariant_of-self
-invariant_of-self g c = (left g c).buffers
+invariant_of-self g c = (c.accept-took.auto.store ∙ c.self.invariant.0, c.self.invariant.1, (left g c).buffers)
 
 pub returns-clause-value : goal.returns-clause-value
 returns-clause-value g c = (left g c).value

@@ -7,10 +7,10 @@ use Rattle.drive_pair.proofs.Bytes.{no_line, goes_as, goes_first, goes_second}
 use Rattle.drive_pair.proofs.Pair.end_line.Goals as goal
 
 pub invariant_of-self : goal.invariant_of-self
-invariant_of-self c = no_line _ c.clear.ensures
+invariant_of-self c = (c.clear.auto.buffer ∙ c.self.invariant.0, no_line _ c.clear.ensures)
 
 pub invariant_of-self-in-B : goal.invariant_of-self-in-B
-invariant_of-self-in-B c = no_line _ c.clear.ensures
+invariant_of-self-in-B c = (c.clear.auto.buffer ∙ c.self.invariant.0, no_line _ c.clear.ensures)
 
 pub returns-in-A : goal.returns-in-A
 returns-in-A c =
