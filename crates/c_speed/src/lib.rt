@@ -134,7 +134,9 @@ fn state_digest(digest: u64, e: End) -> u64 {
     )
 }
 
-// The whole state.
+// The whole state. It becomes a part of what calls it: apart, it would have each turn copy the information once more, which is read here alone.
+// One chain of all four would be copied by a `memcpy`, which the archive would need from outside.
+#[inline(always)]
 fn whole_digest(digest: u64, e: End) -> u64 {
     let counts = [
         e.capacity.0,
@@ -160,12 +162,16 @@ fn whole_digest(digest: u64, e: End) -> u64 {
         e.cause as u64,
         e.mode as u64,
     ];
-    e.information
+    let counted = e
+        .information
         .into_iter()
         .chain(counts.map(|x| x as u64))
-        .chain(numbers.map(u64::from))
+        .fold(digest, mixed);
+    numbers
+        .map(u64::from)
+        .into_iter()
         .chain(marks)
-        .fold(digest, mixed)
+        .fold(counted, mixed)
 }
 
 fn verdict_digest(answer: Result<(), Refusal>) -> u64 {
