@@ -1,6 +1,6 @@
--- How long the lines are, and the last ones from their form.
-use mathlib.Core.List.{List, [], ◌∷◌, ◌++◌, append-nil}
-use mathlib.Core.Path.{◌≡◌, refl, sym, ◌∙◌}
+-- The lines from their forms, and how long they are.
+use mathlib.Core.List.{List, [], ◌∷◌, ◌++◌, append-nil, append_assoc}
+use mathlib.Core.Path.{◌≡◌, refl, ap, sym, ◌∙◌}
 use Prim.Native.Nat.{ℕ, ◌+◌, ◌≤◌}
 use native.Mathlib.Omega.{arith}
 use lib.ListN.{length, length-append}
@@ -11,6 +11,7 @@ use Rattle.text.proofs.Laws.{length_decimal, appends_more, appends_as}
 use Rattle.ticket.specs.Ticket.{text}
 use Rattle.ticket.specs.declared.Ticket.{Ticket}
 use Rattle.ticket.proofs.Laws.{text_short}
+use Rattle.text_word.specs.Words.{answer_word, mode_word}
 use Rattle.text_word.proofs.Laws.{answer_short, mode_short}
 use Rattle.end_state.specs.declared.End.{End}
 use Rattle.receive_answer.specs.Answers.{tells}
@@ -29,6 +30,22 @@ state_part_short e = simp length-append (omega (arith, length_decimal e.wanted.0
 pub line_short : (flit : ℕ) (a : Answer) (e : End) → length (flit_line flit a e) ≤ 128
 unfolding flit_line
 line_short flit a e = simp length-append (omega (arith, answer_part_short flit a, state_part_short e))
+
+-- ---- a line from its forms: put_line goes by the keys, and the law is public
+
+line_joined : (flit word data_part wanted key mode feed : List ℕ)
+    → flit ++ word ++ (data_part ++ (wanted ++ key)) ++ mode ++ feed ≡ (flit ++ word ++ data_part) ++ (wanted ++ key ++ mode ++ feed)
+line_joined flit word data_part wanted key mode feed = simp append_assoc
+
+pub line_is : (flit : ℕ) (a : Answer) (e : End) (n : ℕ) → n ≡ (tells a).delivered
+    → filled (ascii "flit=# answer=") (flit ∷ []) ++ answer_word a ++ filled (ascii " data=# wanted=# mode=") (n ∷ e.wanted.0 ∷ [])
+    ++ mode_word e.mode
+    ++ ascii "\n"
+    ≡ flit_line flit a e
+unfolding filled flit_line answer_part state_part
+line_is flit a e n h =
+    line_joined (ascii "flit=" ++ decimal flit ++ ascii " answer=") (answer_word a) (ascii " data=" ++ decimal n) (ascii " wanted=" ++ decimal e.wanted.0) (ascii " mode=") (mode_word e.mode) (ascii "\n")
+    ∙ ap (λ (k : ℕ). (ascii "flit=" ++ decimal flit ++ ascii " answer=" ++ answer_word a ++ (ascii " data=" ++ decimal k)) ++ state_part e) h
 
 -- ---- room
 

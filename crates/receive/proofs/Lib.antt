@@ -1,6 +1,7 @@
 pub mod Admission
 pub mod Freed
 pub mod Grounds
+pub mod Named
 pub mod Shifted
 pub mod Sides
 pub mod Stays
